@@ -1,0 +1,110 @@
+-- What the needs of signed code ask, said of the integers themselves. A signed value passes through its bits, so a need speaks of `back z` where the
+-- code says z; below 2 ^ 63 in size that is z again, for every operation and test alike. Assumes nothing.
+use mathlib.Core.Path.{_≡_, refl, sym, _∙_, ap, subst}
+use mathlib.Core.Bool.{Bool, true, false, not}
+use mathlib.Core.List.{List, [], _∷_}
+use Prim.Native.Nat.{ℕ, _+_, _*_, _^_, _≤_, _<_}
+use native.Mathlib.Nat.{mul-lt-mul-of-pos-right, mul-le-mul-left, lt-of-le-of-lt, le-of-lt}
+use native.Mathlib.Omega.{arith}
+use lib.Dec.{T}
+use borrow.Author.Tests.{ltb-true}
+use lib.IntN.{ℤ, pos, negsuc, negℤ, natAbs, _+ℤ_, _-ℤ_, _*ℤ_, +ℤ-idl}
+use lib.Signed.{ltZ, nonNeg, ltZ-yes, ltZ-no}
+use mir.Syntax.{w64}
+use mir.Val.{SFits, Fits, toZ, ofZ}
+use mir.Facts.{toZ-ofZ}
+use Rattle.whole.specs.Order.{_≤ᶻ_, _<ᶻ_}
+use Rattle.whole.specs.Nearest.{nearest, halfUp}
+use Rattle.whole.proofs.Laws.{abs-neg, abs-mul}
+use Rattle.whole.proofs.Rounding.{nearest-below, nearest-above}
+
+-- ---- to bits and back
+abbrev pub back : ℤ → ℤ
+back z = toZ w64 (ofZ w64 z)
+
+pub sfits : (z : ℤ) → natAbs z < 2 ^ 63 → SFits w64 z
+sfits (pos n) h = record { sfits = omega arith }
+sfits (negsuc n) h = record { sfits = omega arith }
+
+pub back-is : (z : ℤ) → natAbs z < 2 ^ 63 → back z ≡ z
+back-is z h = toZ-ofZ (sfits z h)
+
+-- ---- an operation whose result is small enough fits, and is the operation on ℤ. `search` finds the operands in the need
+module _ (op : ℤ → ℤ → ℤ) (x y : ℤ) (hx : natAbs x < 2 ^ 63) (hy : natAbs y < 2 ^ 63) (h : natAbs (op x y) < 2 ^ 63) where
+  op-fits : SFits w64 (op (back x) (back y))
+  op-fits = rw (back-is x hx, back-is y hy) (sfits (op x y) h)
+
+  op-is : back (op (back x) (back y)) ≡ op x y
+  op-is = rw (back-is x hx, back-is y hy) (back-is (op x y) h)
+
+-- the sum and the difference, whose size is at most the sizes' sum
+module _ (op : ℤ → ℤ → ℤ) (near : (x y : ℤ) → natAbs (op x y) ≤ natAbs x + natAbs y) (x y : ℤ) (hx : natAbs x < 2 ^ 62) (hy : natAbs y < 2 ^ 62) where
+  abbrev small : natAbs (op x y) < 2 ^ 63
+  small = omega (arith, near x y)
+
+  pub sum-fits : SFits w64 (op (back x) (back y))
+  sum-fits = op-fits op x y (omega arith) (omega arith) small
+
+  pub sum-is : back (op (back x) (back y)) ≡ op x y
+  sum-is = op-is op x y (omega arith) (omega arith) small
+
+  pub sum-size : natAbs (back (op (back x) (back y))) ≤ natAbs x + natAbs y
+  sum-size = rw sum-is (near x y)
+
+-- the product
+abs-mul-lt : (x y : ℤ) {j k : ℕ} → natAbs x < j → natAbs y < k → natAbs (x *ℤ y) < j * k
+abs-mul-lt x y {j} {k} h i =
+    rw (abs-mul x y) (lt-of-le-of-lt (mul-le-mul-left (natAbs x) (le-of-lt i)) (mul-lt-mul-of-pos-right h (omega arith)))
+
+module _ (x y : ℤ) (hx : natAbs x < 2 ^ 31) (hy : natAbs y < 2 ^ 31) where
+  abbrev product-small : natAbs (x *ℤ y) < 2 ^ 62
+  product-small = abs-mul-lt x y hx hy
+
+  pub product-fits : SFits w64 (back x *ℤ back y)
+  product-fits = op-fits _*ℤ_ x y (omega arith) (omega arith) (omega (arith, product-small))
+
+  pub product-is : back (back x *ℤ back y) ≡ x *ℤ y
+  product-is = op-is _*ℤ_ x y (omega arith) (omega arith) (omega (arith, product-small))
+
+  pub product-size : natAbs (back (back x *ℤ back y)) < 2 ^ 62
+  product-size = rw product-is product-small
+
+-- the opposite is computed as zero less z
+pub opposite-fits : (z : ℤ) → natAbs z < 2 ^ 63 → SFits w64 (pos 0 -ℤ back z)
+opposite-fits z h = rw (back-is z h, +ℤ-idl (negℤ z)) (sfits (negℤ z) (rw (abs-neg z) h))
+
+pub opposite-is : (z : ℤ) → natAbs z < 2 ^ 63 → back (pos 0 -ℤ back z) ≡ negℤ z
+opposite-is z h = rw (back-is z h, +ℤ-idl (negℤ z)) (back-is (negℤ z) (rw (abs-neg z) h))
+
+pub opposite-size : (z : ℤ) → natAbs z < 2 ^ 63 → natAbs (back (pos 0 -ℤ back z)) ≡ natAbs z
+opposite-size z h = rw (opposite-is z h) (abs-neg z)
+
+-- ---- what a test `a < b` of the code, and a promise `r ≡ ltZ a b`, say of the order
+pub is-below : (a b : ℤ) → ltZ a b ≡ true → a <ᶻ b
+is-below a b e = ltZ-yes (subst T (sym e) tt)
+
+pub is-not-below : (a b : ℤ) → ltZ a b ≡ false → b ≤ᶻ a
+is-not-below a b e = ltZ-no {a = a} {b = b} (subst (λ (t : Bool). T (not t)) (sym e) tt)
+
+-- ---- by the sign: the cast of the size to u64, and the rounding
+pub cast-below : (z : ℤ) → natAbs z < 2 ^ 63 → ltZ (back z) (pos 0) ≡ true → T (nonNeg (back (pos 0 -ℤ back z))) × Fits w64 (natAbs (back (pos 0 -ℤ back z)))
+cast-below z h e = rw (opposite-is z h) (go z h (subst (λ (y : ℤ). ltZ y (pos 0) ≡ true) (back-is z h) e))
+  where
+    go : (z : ℤ) → natAbs z < 2 ^ 63 → ltZ z (pos 0) ≡ true → T (nonNeg (negℤ z)) × Fits w64 (natAbs (negℤ z))
+    go (pos n) h e = absurd (omega (arith, ltb-true n 0 e))
+    go (negsuc n) h e = (tt, record { fits = omega arith })
+
+pub cast-above : (z : ℤ) → natAbs z < 2 ^ 63 → ltZ (back z) (pos 0) ≡ false → T (nonNeg (back z)) × Fits w64 (natAbs (back z))
+cast-above z h e = rw (back-is z h) (go z h (subst (λ (y : ℤ). ltZ y (pos 0) ≡ false) (back-is z h) e))
+  where
+    go : (z : ℤ) → natAbs z < 2 ^ 63 → ltZ z (pos 0) ≡ false → T (nonNeg z) × Fits w64 (natAbs z)
+    go (pos n) h e = (tt, record { fits = omega arith })
+    go (negsuc n) h e = absurd (subst T e tt)
+
+-- q is the size of z over d, rounded, and b says whether z is below zero
+module _ (z q : ℤ) (b : Bool) (d m n : ℕ) (e : q ≡ pos m) (f : m ≡ halfUp n d) (g : n ≡ natAbs z) (h : b ≡ ltZ z (pos 0)) where
+  pub rounded-above : b ≡ false → q ≡ nearest z d
+  rounded-above i = e ∙ ap pos f ∙ rw (g, nearest-above z d (sym h ∙ i))
+
+  pub rounded-below : (r : ℤ) → r ≡ negℤ q → b ≡ true → r ≡ nearest z d
+  rounded-below r j i = j ∙ ap negℤ (e ∙ ap pos f) ∙ rw (g, nearest-below z d (sym h ∙ i))

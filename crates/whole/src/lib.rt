@@ -1,0 +1,105 @@
+// Whole numbers with a sign, the desk's only signed arithmetic. A signed field of a struct by value is a plain ℤ to the prover, where a bare i64 is
+// its bits: so the amounts of the desk are `Whole`, and nothing above this crate meets bits. Each promise gives the value, and where it helps a
+// linear bound on the size, by which the next call's requirement closes by itself.
+ghost use mathlib.Core.Path.{_≡_};
+ghost use Prim.Native.Nat.{_+_, _*_, _<_, _≤_, _^_};
+ghost use lib.IntN.{pos, negℤ, natAbs, _+ℤ_, _-ℤ_, _*ℤ_};
+ghost use lib.Signed.{ltZ};
+ghost use Rattle.whole.specs.Nearest.{halfUp, nearest};
+
+pub struct Whole {
+    pub v: i64,
+}
+
+impl Whole {
+    // An amount that is not negative.
+    pub fn of_size(n: u64) -> Whole
+        requires { ⌜ n < 2 ^ 63 ⌝ }
+        ensures is { λ r. ⌜ r .v ≡ pos n ⌝ }
+        ensures size { λ r. ⌜ natAbs (r .v) ≡ n ⌝ }
+    {
+        Whole { v: n as i64 }
+    }
+
+    // The size of any amount but the least i64, whose opposite is no i64.
+    pub fn size(self) -> u64
+        requires { ⌜ natAbs (self .v) < 2 ^ 63 ⌝ }
+        ensures { λ r. ⌜ r ≡ natAbs (self .v) ⌝ }
+    {
+        if self.v < 0 {
+            (-self.v) as u64
+        } else {
+            self.v as u64
+        }
+    }
+
+    pub fn below_zero(self) -> bool
+        ensures { λ r. ⌜ r ≡ ltZ (self .v) (pos 0) ⌝ }
+    {
+        self.v < 0
+    }
+
+    pub fn opposite(self) -> Whole
+        requires { ⌜ natAbs (self .v) < 2 ^ 63 ⌝ }
+        ensures is { λ r. ⌜ r .v ≡ negℤ (self .v) ⌝ }
+        ensures size { λ r. ⌜ natAbs (r .v) ≡ natAbs (self .v) ⌝ }
+    {
+        Whole { v: -self.v }
+    }
+
+    pub fn plus(self, b: Whole) -> Whole
+        requires { ⌜ natAbs (self .v) < 2 ^ 62 ⌝ }
+        requires { ⌜ natAbs (b .v) < 2 ^ 62 ⌝ }
+        ensures is { λ r. ⌜ r .v ≡ self .v +ℤ b .v ⌝ }
+        ensures size { λ r. ⌜ natAbs (r .v) ≤ natAbs (self .v) + natAbs (b .v) ⌝ }
+    {
+        Whole { v: self.v + b.v }
+    }
+
+    pub fn minus(self, b: Whole) -> Whole
+        requires { ⌜ natAbs (self .v) < 2 ^ 62 ⌝ }
+        requires { ⌜ natAbs (b .v) < 2 ^ 62 ⌝ }
+        ensures is { λ r. ⌜ r .v ≡ self .v -ℤ b .v ⌝ }
+        ensures size { λ r. ⌜ natAbs (r .v) ≤ natAbs (self .v) + natAbs (b .v) ⌝ }
+    {
+        Whole { v: self.v - b.v }
+    }
+
+    pub fn times(self, b: Whole) -> Whole
+        requires { ⌜ natAbs (self .v) < 2 ^ 31 ⌝ }
+        requires { ⌜ natAbs (b .v) < 2 ^ 31 ⌝ }
+        ensures is { λ r. ⌜ r .v ≡ self .v *ℤ b .v ⌝ }
+        ensures size { λ r. ⌜ natAbs (r .v) < 2 ^ 62 ⌝ }
+    {
+        Whole { v: self.v * b.v }
+    }
+
+    pub fn less(self, b: Whole) -> bool
+        ensures { λ r. ⌜ r ≡ ltZ (self .v) (b .v) ⌝ }
+    {
+        self.v < b.v
+    }
+
+    // Over d, to the nearest whole number: the size is rounded, and the sign put back.
+    pub fn nearest(self, d: u64) -> Whole
+        requires { ⌜ natAbs (self .v) < 2 ^ 62 ⌝ }
+        requires { ⌜ 0 < d ⌝ }
+        requires { ⌜ d < 2 ^ 62 ⌝ }
+        ensures is { λ r. ⌜ r .v ≡ nearest (self .v) d ⌝ }
+        ensures size { λ r. ⌜ natAbs (r .v) ≤ natAbs (self .v) ⌝ }
+    {
+        let q = Whole::of_size(half_up(self.size(), d));
+        if self.below_zero() { q.opposite() } else { q }
+    }
+}
+
+// n / d to the nearest whole number, for amounts that are not negative.
+pub fn half_up(n: u64, d: u64) -> u64
+    requires { ⌜ 2 * n + d < 2 ^ 64 ⌝ }
+    requires { ⌜ 0 < d ⌝ }
+    requires { ⌜ 2 * d < 2 ^ 64 ⌝ }
+    ensures is { λ r. ⌜ r ≡ halfUp n d ⌝ }
+    ensures size { λ r. ⌜ r ≤ n ⌝ }
+{
+    (2 * n + d) / (2 * d)
+}
