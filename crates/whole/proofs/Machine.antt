@@ -1,14 +1,13 @@
 -- What the needs of signed code ask, said of the integers themselves. A signed value passes through its bits, so a need speaks of `back z` where the
 -- code says z; below 2 ^ 63 in size that is z again, for every operation and test alike. Assumes nothing.
-use mathlib.Core.Path.{_≡_, refl, sym, _∙_, ap, subst}
+use mathlib.Core.Path.{_≡_, sym, _∙_, ap, subst}
 use mathlib.Core.Bool.{Bool, true, false, not}
-use mathlib.Core.List.{List, [], _∷_}
 use Prim.Native.Nat.{ℕ, _+_, _*_, _^_, _≤_, _<_}
 use native.Mathlib.Nat.{mul-lt-mul-of-pos-right, mul-le-mul-left, lt-of-le-of-lt, le-of-lt}
 use native.Mathlib.Omega.{arith}
 use lib.Dec.{T}
 use borrow.Author.Tests.{ltb-true}
-use lib.IntN.{ℤ, pos, negsuc, negℤ, natAbs, _+ℤ_, _-ℤ_, _*ℤ_, +ℤ-idl}
+use lib.IntN.{ℤ, pos, negsuc, negℤ, natAbs, _-ℤ_, _*ℤ_, +ℤ-idl}
 use lib.Signed.{ltZ, nonNeg, ltZ-yes, ltZ-no}
 use mir.Syntax.{w64}
 use mir.Val.{SFits, Fits, toZ, ofZ}
@@ -56,7 +55,7 @@ abs-mul-lt : (x y : ℤ) {j k : ℕ} → natAbs x < j → natAbs y < k → natAb
 abs-mul-lt x y {j} {k} h i =
     rw (abs-mul x y) (lt-of-le-of-lt (mul-le-mul-left (natAbs x) (le-of-lt i)) (mul-lt-mul-of-pos-right h (omega arith)))
 
-module _ (x y : ℤ) (hx : natAbs x < 2 ^ 31) (hy : natAbs y < 2 ^ 31) where
+module _ (x y : ℤ) (hx : natAbs x < 2 ^ 34) (hy : natAbs y < 2 ^ 28) where
   abbrev product-small : natAbs (x *ℤ y) < 2 ^ 62
   product-small = abs-mul-lt x y hx hy
 

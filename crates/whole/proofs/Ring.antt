@@ -2,11 +2,11 @@
 -- it is made; proofs/Poly.antt brings that into normal form. proofs/Examples.antt shows how a proof uses it. Assumes nothing.
 use mathlib.Core.Path.{_≡_, refl, sym, _∙_, ap, subst}
 use mathlib.Core.List.{List, [], _∷_}
-use Prim.Native.Nat.{ℕ, zero, suc, _+_, _*_, _^_}
+use Prim.Native.Nat.{ℕ, suc, _+_, _*_, _^_}
 use lib.Dec.{T, leb}
-use lib.IntN.{ℤ, pos, negsuc, negℤ, _+ℤ_, _-ℤ_, _*ℤ_, +ℤ-idl, -ℤ-+ℤ-cancel}
+use lib.IntN.{ℤ, pos, negsuc, negℤ, _+ℤ_, _*ℤ_, +ℤ-idl, -ℤ-+ℤ-cancel}
 use Rattle.whole.proofs.Diff.{Is, Diff, Sides, sides}
-use Rattle.whole.proofs.Poly.{Exp, at, num, plus, times, minus, look, value, norm, zeros, evp, norm-ok, zeros-ok, ups, dns, poly-is}
+use Rattle.whole.proofs.Poly.{Exp, at, num, plus, times, minus, look, value, norm, zeros, norm-ok, zeros-ok, ups, dns, poly-is}
 
 -- ---- a term over the unknowns ρ, read
 pub record Read (ρ : List ℤ) (z : ℤ) : Type 0 where

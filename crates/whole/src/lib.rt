@@ -65,9 +65,10 @@ impl Whole {
         Whole { v: self.v - b.v }
     }
 
+    // The larger factor first.
     pub fn times(self, b: Whole) -> Whole
-        requires { ⌜ natAbs (self .v) < 2 ^ 31 ⌝ }
-        requires { ⌜ natAbs (b .v) < 2 ^ 31 ⌝ }
+        requires { ⌜ natAbs (self .v) < 2 ^ 34 ⌝ }
+        requires { ⌜ natAbs (b .v) < 2 ^ 28 ⌝ }
         ensures is { λ r. ⌜ r .v ≡ self .v *ℤ b .v ⌝ }
         ensures size { λ r. ⌜ natAbs (r .v) < 2 ^ 62 ⌝ }
     {
