@@ -1,19 +1,55 @@
 -- What is told determines the answer: two answers that tell the same are the same. So a promise `told r ≡ ..` allows one answer only, and
--- "any two outcomes coincide" is this law at each step.
+-- "any two outcomes coincide" is one of these laws at each step.
 use mathlib.Core.Path.{_≡_, refl, sym, _∙_, ap}
 use native.Mathlib.Omega.{arith}
-use lib.IntN.{ℤ}
+use lib.IntN.{ℤ, natAbs}
 use Rattle.answer.specs.declared.Amount.{Amount}
-use Rattle.answer.specs.declared.Amount.the-variants.{Is, OutOfRange}
-use Rattle.answer.specs.Told.{Told, told}
+use Rattle.answer.specs.declared.Amount.the-variants as amount
+use Rattle.answer.specs.declared.Count.{Count}
+use Rattle.answer.specs.declared.Count.the-variants as count
+use Rattle.answer.specs.declared.Verdict.{Verdict}
+use Rattle.answer.specs.declared.Verdict.the-variants as verdict
+use Rattle.answer.specs.Told.{Told, told, toldCount, toldVerdict}
 
-one-telling : (x y : Amount) → told x ≡ told y → x ≡ y
+-- tellings with different numbers, or different values, are different
+differ : {t u : Told} {A : Type 0} → (t .number ≡ u .number → ⊥) → t ≡ u → A
+differ f e = absurd (f (ap (λ (t : Told). t .number) e))
+
+value-of : {t u : Told} → t ≡ u → t .value ≡ u .value
+value-of e = ap (λ (t : Told). t .value) e
+
+one-amount : (x y : Amount) → told x ≡ told y → x ≡ y
 unfolding told
-one-telling (Is y) (Is z) e = ap (λ (n : ℤ). Is (record { v = n })) (ap (λ (t : Told). t .value) e)
-one-telling (Is y) OutOfRange e = absurd (omega (arith, ap (λ (t : Told). t .number) e))
-one-telling OutOfRange (Is z) e = absurd (omega (arith, ap (λ (t : Told). t .number) e))
-one-telling OutOfRange OutOfRange e = refl
+one-amount (amount.Is y) (amount.Is z) e = ap (λ (n : ℤ). amount.Is (record { v = n })) (value-of e)
+one-amount (amount.Is y) amount.OutOfRange e = differ (λ h. omega arith) e
+one-amount amount.OutOfRange (amount.Is z) e = differ (λ h. omega arith) e
+one-amount amount.OutOfRange amount.OutOfRange e = refl
 
--- two answers that a promise allows
+one-count : (x y : Count) → toldCount x ≡ toldCount y → x ≡ y
+unfolding toldCount
+one-count (count.Is m) (count.Is n) e = ap count.Is (ap natAbs (value-of e))
+one-count (count.Is m) count.OutOfRange e = differ (λ h. omega arith) e
+one-count count.OutOfRange (count.Is n) e = differ (λ h. omega arith) e
+one-count count.OutOfRange count.OutOfRange e = refl
+
+one-verdict : (x y : Verdict) → toldVerdict x ≡ toldVerdict y → x ≡ y
+unfolding toldVerdict
+one-verdict verdict.Passes verdict.Passes e = refl
+one-verdict verdict.Passes verdict.Fails e = absurd (omega (arith, ap natAbs (value-of e)))
+one-verdict verdict.Passes verdict.OutOfRange e = differ (λ h. omega arith) e
+one-verdict verdict.Fails verdict.Passes e = absurd (omega (arith, ap natAbs (value-of e)))
+one-verdict verdict.Fails verdict.Fails e = refl
+one-verdict verdict.Fails verdict.OutOfRange e = differ (λ h. omega arith) e
+one-verdict verdict.OutOfRange verdict.Passes e = differ (λ h. omega arith) e
+one-verdict verdict.OutOfRange verdict.Fails e = differ (λ h. omega arith) e
+one-verdict verdict.OutOfRange verdict.OutOfRange e = refl
+
+-- ---- two answers that a promise allows
 pub amounts-coincide : (t : Told) (x y : Amount) → told x ≡ t → told y ≡ t → x ≡ y
-amounts-coincide t x y e f = one-telling x y (e ∙ sym f)
+amounts-coincide t x y e f = one-amount x y (e ∙ sym f)
+
+pub counts-coincide : (t : Told) (x y : Count) → toldCount x ≡ t → toldCount y ≡ t → x ≡ y
+counts-coincide t x y e f = one-count x y (e ∙ sym f)
+
+pub verdicts-coincide : (t : Told) (x y : Verdict) → toldVerdict x ≡ t → toldVerdict y ≡ t → x ≡ y
+verdicts-coincide t x y e f = one-verdict x y (e ∙ sym f)

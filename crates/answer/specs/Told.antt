@@ -1,10 +1,15 @@
 -- Paper 01, "Nine refusals": a refusal returns its number and place, every other number zero; on acceptance number and place are zero.
 -- An answer is told as these numbers, and every promise is an equation of what is told.
-use mathlib.Core.Bool.{Bool, cond}
+use mathlib.Core.Bool.{Bool, cond, _&&_}
 use Prim.Native.Nat.{ℕ}
+use lib.Dec.{leb}
 use lib.IntN.{ℤ, pos}
 use Rattle.answer.specs.declared.Amount.{Amount}
-use Rattle.answer.specs.declared.Amount.the-variants.{Is, OutOfRange}
+use Rattle.answer.specs.declared.Amount.the-variants as amount
+use Rattle.answer.specs.declared.Count.{Count}
+use Rattle.answer.specs.declared.Count.the-variants as count
+use Rattle.answer.specs.declared.Verdict.{Verdict}
+use Rattle.answer.specs.declared.Verdict.the-variants as verdict
 
 pub record Told : Type 0 where
   pub number : ℕ
@@ -21,7 +26,24 @@ refused number place = record { number = number; place = place; value = pos 0 }
 abbrev pub inRange : Bool → ℤ → Told
 inRange good z = cond good (given z) (refused 4 0)
 
+-- a range as the paper writes it, low..high
+unfoldable pub inside : ℕ → ℕ → ℕ → Bool
+inside low high x = leb low x && leb x high
+
+-- a test that passes is told as 1, one that fails as 0
+abbrev pub passes : Bool → ℤ
+passes good = cond good (pos 1) (pos 0)
+
 -- ---- what each case of an answer tells
 unfoldable pub told : Amount → Told
-told (Is z) = given (z .v)
-told OutOfRange = refused 4 0
+told (amount.Is z) = given (z .v)
+told amount.OutOfRange = refused 4 0
+
+unfoldable pub toldCount : Count → Told
+toldCount (count.Is n) = given (pos n)
+toldCount count.OutOfRange = refused 4 0
+
+unfoldable pub toldVerdict : Verdict → Told
+toldVerdict verdict.Passes = given (pos 1)
+toldVerdict verdict.Fails = given (pos 0)
+toldVerdict verdict.OutOfRange = refused 4 0

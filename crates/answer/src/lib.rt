@@ -1,8 +1,47 @@
 // What a public step answers: the value, or a refusal. specs/Told.antt says of every case which number, place and value that is.
 use whole::Whole;
+ghost use mathlib.Core.Path.{_≡_};
+ghost use lib.IntN.{pos};
+ghost use Rattle.answer.specs.Told.{told, toldCount};
 
-// Of an arithmetic step: an amount, or the input was out of the range stated with the step.
+// Of an arithmetic step: an amount with a sign, or the input was out of the range stated with the step.
 pub enum Amount {
     Is(Whole),
     OutOfRange,
+}
+
+// Of a step whose answer is never negative.
+pub enum Count {
+    Is(u64),
+    OutOfRange,
+}
+
+// Of a step that tests.
+pub enum Verdict {
+    Passes,
+    Fails,
+    OutOfRange,
+}
+
+// The value that is told, which is zero on a refusal: for a caller whose input is in range.
+impl Amount {
+    pub fn value(self) -> Whole
+        ensures { λ r. ⌜ r .v ≡ told self .value ⌝ }
+    {
+        match self {
+            Amount::Is(z) => z,
+            Amount::OutOfRange => Whole { v: 0 },
+        }
+    }
+}
+
+impl Count {
+    pub fn value(self) -> u64
+        ensures { λ r. ⌜ pos r ≡ toldCount self .value ⌝ }
+    {
+        match self {
+            Count::Is(n) => n,
+            Count::OutOfRange => 0,
+        }
+    }
 }

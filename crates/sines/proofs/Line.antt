@@ -9,7 +9,7 @@ use lib.IntN.{ℤ, pos, negℤ, natAbs, _+ℤ_, _-ℤ_, _*ℤ_, +ℤ-idr, *ℤ-z
 use Rattle.whole.specs.Nearest.{nearest, halfUp}
 use Rattle.whole.proofs.Diff.{ints, same, abs-under}
 use Rattle.whole.proofs.Ring.{ring, exps}
-use Rattle.whole.proofs.Rounding.{nearest-neg, nearest-multiple, half-up-most}
+use Rattle.whole.proofs.Rounding.{nearest-neg, nearest-zero, half-up-most}
 use Rattle.sines.specs.Sine.{between}
 
 -- "at r = 0 it is entry m itself"
@@ -18,7 +18,7 @@ unfolding between
 at-minute e f = ap (λ (q : ℤ). e +ℤ q) nothing ∙ +ℤ-idr e
   where
     nothing : nearest ((f -ℤ e) *ℤ pos 0) 600 ≡ pos 0
-    nothing = rw (*ℤ-zero (f -ℤ e)) (nearest-multiple (pos 0) 600 (omega arith))
+    nothing = rw (*ℤ-zero (f -ℤ e)) (nearest-zero 600 (omega arith))
 
 -- a step of r of 600 parts over d is at most d
 part : (d r : ℕ) → r ≤ 600 → halfUp (d * r) 600 ≤ d

@@ -1,19 +1,20 @@
 -- What the needs of signed code ask, said of the integers themselves. A signed value passes through its bits, so a need speaks of `back z` where the
 -- code says z; below 2 ^ 63 in size that is z again, for every operation and test alike. Assumes nothing.
-use mathlib.Core.Path.{_≡_, sym, _∙_, ap, subst}
+use mathlib.Core.Path.{_≡_, refl, sym, _∙_, ap, subst}
 use mathlib.Core.Bool.{Bool, true, false, not}
-use Prim.Native.Nat.{ℕ, _+_, _*_, _^_, _≤_, _<_}
+use Prim.Native.Nat.{ℕ, _+_, _-_, _*_, _^_, _≤_, _<_}
 use native.Mathlib.Nat.{mul-lt-mul-of-pos-right, mul-le-mul-left, lt-of-le-of-lt, le-of-lt}
 use native.Mathlib.Omega.{arith}
 use lib.Dec.{T}
 use borrow.Author.Tests.{ltb-true}
-use lib.IntN.{ℤ, pos, negsuc, negℤ, natAbs, _-ℤ_, _*ℤ_, +ℤ-idl}
-use lib.Signed.{ltZ, nonNeg, ltZ-yes, ltZ-no}
+use lib.IntN.{ℤ, pos, negsuc, negℤ, natAbs, _+ℤ_, _-ℤ_, _*ℤ_, negℤ-negℤ, +ℤ-idl}
+use lib.Signed.{ltZ, nonNeg, mag, ltZ-yes, ltZ-no}
 use mir.Syntax.{w64}
 use mir.Val.{SFits, Fits, toZ, ofZ}
 use mir.Facts.{toZ-ofZ}
 use Rattle.whole.specs.Order.{_≤ᶻ_, _<ᶻ_}
 use Rattle.whole.specs.Nearest.{nearest, halfUp}
+use Rattle.whole.proofs.Diff.{ints, same}
 use Rattle.whole.proofs.Laws.{abs-neg, abs-mul}
 use Rattle.whole.proofs.Rounding.{nearest-below, nearest-above}
 
@@ -85,20 +86,62 @@ is-below a b e = ltZ-yes (subst T (sym e) tt)
 pub is-not-below : (a b : ℤ) → ltZ a b ≡ false → b ≤ᶻ a
 is-not-below a b e = ltZ-no {a = a} {b = b} (subst (λ (t : Bool). T (not t)) (sym e) tt)
 
--- ---- by the sign: the cast of the size to u64, and the rounding
-pub cast-below : (z : ℤ) → natAbs z < 2 ^ 63 → ltZ (back z) (pos 0) ≡ true → T (nonNeg (back (pos 0 -ℤ back z))) × Fits w64 (natAbs (back (pos 0 -ℤ back z)))
-cast-below z h e = rw (opposite-is z h) (go z h (subst (λ (y : ℤ). ltZ y (pos 0) ≡ true) (back-is z h) e))
-  where
-    go : (z : ℤ) → natAbs z < 2 ^ 63 → ltZ z (pos 0) ≡ true → T (nonNeg (negℤ z)) × Fits w64 (natAbs (negℤ z))
-    go (pos n) h e = absurd (omega (arith, ltb-true n 0 e))
-    go (negsuc n) h e = (tt, record { fits = omega arith })
+-- a number by its sign
+pub sign-below : (z : ℤ) → ltZ z (pos 0) ≡ true → (n : ℕ) × (z ≡ negsuc n)
+sign-below (pos n) e = absurd (omega (arith, ltb-true n 0 e))
+sign-below (negsuc n) e = (n, refl)
 
-pub cast-above : (z : ℤ) → natAbs z < 2 ^ 63 → ltZ (back z) (pos 0) ≡ false → T (nonNeg (back z)) × Fits w64 (natAbs (back z))
-cast-above z h e = rw (back-is z h) (go z h (subst (λ (y : ℤ). ltZ y (pos 0) ≡ false) (back-is z h) e))
-  where
-    go : (z : ℤ) → natAbs z < 2 ^ 63 → ltZ z (pos 0) ≡ false → T (nonNeg z) × Fits w64 (natAbs z)
-    go (pos n) h e = (tt, record { fits = omega arith })
-    go (negsuc n) h e = absurd (subst T e tt)
+pub sign-above : (z : ℤ) → ltZ z (pos 0) ≡ false → (n : ℕ) × (z ≡ pos n)
+sign-above (pos n) e = (n, refl)
+sign-above (negsuc n) e = absurd (subst T e tt)
+
+-- ---- by the sign. Of an amount below zero the code takes one more, turns the sign, and adds the one again: so it does for the least i64 too
+back-all : (z : ℤ) → mag z < 2 ^ 63 → back z ≡ z
+back-all z m = toZ-ofZ (record { sfits = m })
+
+module _ (z : ℤ) (m : mag z < 2 ^ 63) (e : ltZ (back z) (pos 0) ≡ true) where
+  -- one less than the size
+  abbrev rest : ℕ
+  rest = natAbs z - 1
+
+  rest-is : (natAbs z ≡ rest + 1) × (rest < 2 ^ 63) × (z +ℤ pos 1 ≡ negℤ (pos rest))
+  rest-is =
+      let s = sign-below z (subst (λ (y : ℤ). ltZ y (pos 0) ≡ true) (back-all z m) e) in
+      let small = subst (λ (y : ℤ). mag y < 2 ^ 63) (s .1) m in
+      rw (s .1) (omega arith, omega arith, same (search ints) (omega arith))
+
+  one-more : back z +ℤ pos 1 ≡ negℤ (pos rest)
+  one-more = rw (back-all z m) (rest-is .2)
+
+  turned : pos 0 -ℤ back (back z +ℤ pos 1) ≡ pos rest
+  turned = rw (one-more, back-is (negℤ (pos rest)) (rw (abs-neg (pos rest)) (rest-is .1)), negℤ-negℤ (pos rest), +ℤ-idl (pos rest))
+
+  abbrev again : ℤ
+  again = back (pos 0 -ℤ back (back z +ℤ pos 1))
+
+  again-is : again ≡ pos rest
+  again-is = rw turned (back-is (pos rest) (rest-is .1))
+
+  pub below-more-fits : SFits w64 (back z +ℤ pos 1)
+  below-more-fits = rw one-more (sfits (negℤ (pos rest)) (rw (abs-neg (pos rest)) (rest-is .1)))
+
+  pub below-turned-fits : SFits w64 (pos 0 -ℤ back (back z +ℤ pos 1))
+  below-turned-fits = rw turned (sfits (pos rest) (rest-is .1))
+
+  pub below-cast : T (nonNeg again) × Fits w64 (natAbs again)
+  below-cast = rw again-is (tt, record { fits = omega (arith, rest-is .1) })
+
+  pub below-again-fits : Fits w64 (natAbs again + 1)
+  below-again-fits = rw again-is (record { fits = omega (arith, rest-is .1) })
+
+  pub below-size : natAbs again + 1 ≡ natAbs z
+  below-size = rw again-is (sym (rest-is .0))
+
+pub above-cast : (z : ℤ) → mag z < 2 ^ 63 → ltZ (back z) (pos 0) ≡ false → T (nonNeg (back z)) × Fits w64 (natAbs (back z))
+above-cast z m e =
+    let s = sign-above z (subst (λ (y : ℤ). ltZ y (pos 0) ≡ false) (back-all z m) e) in
+    let small = subst (λ (y : ℤ). mag y < 2 ^ 63) (s .1) m in
+    rw (back-all z m, s .1) (tt, record { fits = omega arith })
 
 -- q is the size of z over d, rounded, and b says whether z is below zero
 module _ (z q : ℤ) (b : Bool) (d m n : ℕ) (e : q ≡ pos m) (f : m ≡ halfUp n d) (g : n ≡ natAbs z) (h : b ≡ ltZ z (pos 0)) where

@@ -10,7 +10,7 @@ use native.Mathlib.Omega.{arith}
 use lib.Dec.{T}
 use lib.Signed.{ltZ}
 use borrow.Author.Tests.{ltb-true}
-use lib.IntN.{ℤ, pos, negsuc, negℤ, natAbs, negℤ-negℤ, _-ℤ_, _*ℤ_}
+use lib.IntN.{ℤ, pos, negsuc, negℤ, natAbs, negℤ-negℤ, _-ℤ_, _*ℤ_, zero-*ℤ}
 use Rattle.whole.specs.Order.{_≤ᶻ_}
 use Rattle.whole.specs.Nearest.{Nearest, nearest, halfUp}
 use Rattle.whole.proofs.Diff.{Diff, ints, int, abs-cases}
@@ -75,6 +75,9 @@ nearest-neg z d h = sym (nearest-unique (negℤ z) d (negℤ (nearest z d)) h (p
 pub nearest-multiple : (q : ℤ) (d : ℕ) → 0 < d → nearest (q *ℤ pos d) d ≡ q
 nearest-multiple q d h =
     sym (nearest-unique (q *ℤ pos d) d q h (record { close = rw (sub-self (q *ℤ pos d)) (omega arith); away = λ e. omega (arith, abs-mul q (pos d)) }))
+
+pub nearest-zero : (d : ℕ) → 0 < d → nearest (pos 0) d ≡ pos 0
+nearest-zero d h = ap (λ (z : ℤ). nearest z d) (sym (zero-*ℤ (pos d))) ∙ nearest-multiple (pos 0) d h
 
 -- ---- it rises
 half-up-mono : (m n d : ℕ) → 0 < d → m ≤ n → halfUp m d ≤ halfUp n d

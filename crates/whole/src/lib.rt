@@ -21,13 +21,12 @@ impl Whole {
         Whole { v: n as i64 }
     }
 
-    // The size of any amount but the least i64, whose opposite is no i64.
+    // The size of any amount. One is added before the sign is turned and again after, since the opposite of the least i64 is no i64.
     pub fn size(self) -> u64
-        requires { ⌜ natAbs (self .v) < 2 ^ 63 ⌝ }
         ensures { λ r. ⌜ r ≡ natAbs (self .v) ⌝ }
     {
         if self.v < 0 {
-            (-self.v) as u64
+            (-(self.v + 1)) as u64 + 1
         } else {
             self.v as u64
         }

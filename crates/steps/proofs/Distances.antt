@@ -1,0 +1,48 @@
+-- The sea level factor by the sign of the elevation, which is how the code goes.
+use mathlib.Core.Path.{_≡_, sym, _∙_, ap}
+use mathlib.Core.Bool.{Bool, true, false, _&&_}
+use Prim.Native.Nat.{ℕ, suc, _+_, _-_, _≤_, _<_}
+use native.Mathlib.Omega.{arith}
+use borrow.Author.Tests.{le-leb, lt-leb}
+use lib.IntN.{ℤ, pos, negsuc, negℤ, natAbs, _+ℤ_}
+use lib.Signed.{ltZ, leZ}
+use Rattle.whole.specs.Nearest.{halfUp}
+use Rattle.whole.proofs.Diff.{ints, same}
+use Rattle.whole.proofs.Machine.{sign-below, sign-above}
+use Rattle.steps.specs.Distance.{seaLevel}
+
+-- -1,000..20,000
+abbrev good : ℤ → Bool
+good e = leZ (negℤ (pos 1000)) e && leZ e (pos 20000)
+
+module _ (e : ℤ) (feet : ℕ) (below : Bool) (f : feet ≡ natAbs e) (b : below ≡ ltZ e (pos 0)) where
+  module _ (t : below ≡ true) where
+    abbrev s : (n : ℕ) × (e ≡ negsuc n)
+    s = sign-below e (sym b ∙ t)
+
+    pub below-good : feet ≤ 1000 → good e ≡ true
+    below-good h = rw (s .1) (rw (le-leb (s .0) 999 (omega (arith, f ∙ ap natAbs (s .1)))))
+
+    pub below-not : 1000 < feet → good e ≡ false
+    below-not h = rw (s .1) (rw (lt-leb (s .0) 999 (omega (arith, f ∙ ap natAbs (s .1)))))
+
+    pub sea-below : (r : ℕ) → r ≡ halfUp 209060000000000 (20906000 - feet) → feet ≤ 1000 → r ≡ seaLevel e
+    unfolding seaLevel
+    sea-below r i h = i ∙ ap (halfUp 209060000000000) (rw (s .1) (ap natAbs (less (s .0) (f ∙ ap natAbs (s .1)))))
+      where
+        less : (n : ℕ) → feet ≡ suc n → pos (20906000 - feet) ≡ pos 20906000 +ℤ negsuc n
+        less n g = same (search ints) (omega arith)
+
+  module _ (t : below ≡ false) where
+    abbrev u : (n : ℕ) × (e ≡ pos n)
+    u = sign-above e (sym b ∙ t)
+
+    pub above-good : feet ≤ 20000 → good e ≡ true
+    above-good h = rw (u .1) (le-leb (u .0) 20000 (omega (arith, f ∙ ap natAbs (u .1))))
+
+    pub above-not : 20000 < feet → good e ≡ false
+    above-not h = rw (u .1) (lt-leb (u .0) 20000 (omega (arith, f ∙ ap natAbs (u .1))))
+
+    pub sea-above : (r : ℕ) → r ≡ halfUp 209060000000000 (20906000 + feet) → r ≡ seaLevel e
+    unfolding seaLevel
+    sea-above r i = i ∙ ap (halfUp 209060000000000) (rw (u .1) (omega (arith, f ∙ ap natAbs (u .1))))

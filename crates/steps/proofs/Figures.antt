@@ -1,0 +1,80 @@
+-- Paper 01, "Figures on both sides": what the written rules give is what the paper prints. The cases marked P are one claim over one list, `marked`;
+-- the other figures of the steps stand in `others`. Both are computed by antt from the definitions. A further case is one line.
+use mathlib.Core.Path.{_≡_, refl}
+use mathlib.Core.List.{List, [], _∷_, map}
+use Prim.Native.Nat.{ℕ, _+_, _*_}
+use lib.IntN.{ℤ, pos, negℤ}
+use Rattle.whole.specs.Nearest.{nearest}
+use Rattle.whole.specs.Sum.{sumTo}
+use Rattle.answer.specs.Told.{Told, given, inside}
+use Rattle.sines.specs.Exact.{exactSine, exactQuarter, bySeries, series, weight, unity, straight, pi, factorial}
+use Rattle.sines.specs.Quadrant.{around, turned, folded}
+use Rattle.sines.specs.Sine.{entry, between, quarterBy, sineOf, ofAngle}
+use Rattle.steps.specs.Distance.{seaLevel, combine, grid, seaLevelStep, combineStep}
+use Rattle.steps.specs.Azimuth.{turn, misclosure, closesAngles, misclosureStep, misclosureTest}
+use Rattle.steps.specs.Share.{share, shareStep}
+use Rattle.steps.specs.Course.{north, east, move, sineAlong, courseStep}
+use Rattle.steps.specs.Closure.{closes, root, precision, closureTest, precisionStep}
+use Rattle.steps.specs.Area.{cross, nextStation, doubledTo, small, areaStep}
+
+-- a figure: what a step tells by the rules, and the number that the paper prints
+pub record Figure : Type 0 where
+  pub rule : Told
+  pub paper : ℤ
+
+abbrev fig : Told → ℤ → Figure
+fig rule paper = record { rule = rule; paper = paper }
+
+-- degrees, minutes, seconds and a tenth
+abbrev dms : ℕ → ℕ → ℕ → ℕ → ℕ
+dms degrees minutes seconds tenth = ((degrees * 60 + minutes) * 60 + seconds) * 10 + tenth
+
+abbrev sineAt : ℕ → Told
+sineAt a = ofAngle a (sineOf a)
+
+pub marked : List Figure
+marked =
+    fig (sineAt 0) (pos 0)
+    ∷ fig (sineAt (dms 30 0 0 0)) (pos 500000000)
+    ∷ fig (sineAt (dms 90 0 0 0)) (pos 1000000000)
+    ∷ fig (sineAt (dms 0 1 0 0)) (pos 290888)
+    ∷ fig (sineAt (dms 0 0 0 1)) (pos 485)
+    ∷ fig (sineAt (dms 0 0 30 0)) (pos 145444)
+    ∷ fig (seaLevelStep (pos 950)) (pos 9999546)
+    ∷ fig (seaLevelStep (pos 1952)) (pos 9999066)
+    ∷ fig (seaLevelStep (pos 1235)) (pos 9999409)
+    ∷ fig (seaLevelStep (negℤ (pos 1000))) (pos 10000478)
+    ∷ fig (combineStep 9999546 9999412) (pos 9998958)
+    ∷ fig (courseStep north 5387658 (dms 208 33 59 7)) (pos 473178)
+    ∷ fig (courseStep east 5387658 (dms 208 33 59 7)) (pos 257627)
+    ∷ fig (courseStep north 5190741 (dms 268 10 58 2)) (pos 16460)
+    ∷ fig (courseStep east 5190741 (dms 268 10 58 2)) (pos 518813)
+    ∷ fig (shareStep (pos 2) 1 3) (pos 1)
+    ∷ fig (shareStep (pos 2) 2 3) (pos 1)
+    ∷ fig (shareStep (pos 2) 3 3) (pos 2)
+    ∷ fig (shareStep (negℤ (pos 30)) 2636200 5276590) (negℤ (pos 15))
+    ∷ []
+
+-- the steps of the paper's other figures, and of the sheet that it prints whole
+pub others : List Figure
+others =
+    fig (misclosureStep 12959999 0) (negℤ (pos 1))
+    ∷ fig (misclosureTest (pos 500) 4) (pos 1)
+    ∷ fig (misclosureTest (pos 501) 4) (pos 0)
+    ∷ fig (closureTest (pos 80) (pos 0) 4000030) (pos 1)
+    ∷ fig (closureTest (pos 80) (pos 1) 4000030) (pos 0)
+    ∷ fig (precisionStep (negℤ (pos 30)) (pos 29) 5276590) (pos 12646)
+    ∷ fig (precisionStep (negℤ (pos 1)) (pos 2) 4000030) (pos 178886)
+    ∷ fig (areaStep (pos 0 ∷ pos 0 ∷ pos 100000 ∷ pos 0 ∷ pos 100001 ∷ pos 100001 ∷ pos 0 ∷ pos 100000 ∷ [])) (pos 20000200000)
+    ∷ []
+
+abbrev Hold : List Figure → Type 0
+Hold figures = map (λ (f : Figure). f .rule) figures ≡ map (λ (f : Figure). given (f .paper)) figures
+
+pub marked-hold : Hold marked
+unfolding marked sineOf quarterBy between entry nearest exactSine around turned folded exactQuarter bySeries series weight unity straight pi factorial seaLevel combine grid inside share move sineAlong
+marked-hold = refl
+
+pub others-hold : Hold others
+unfolding others turn misclosure closesAngles inside closes root precision cross nextStation doubledTo small sumTo
+others-hold = refl

@@ -1,0 +1,66 @@
+-- Any two outcomes that a promise of this crate allows coincide, for every input: what is told determines the answer.
+use mathlib.Core.Path.{_≡_}
+use mathlib.Core.List.{List}
+use Prim.Native.Nat.{ℕ}
+use lib.IntN.{ℤ}
+use Rattle.answer.specs.Told.{told, toldCount, toldVerdict}
+use Rattle.answer.specs.declared.Amount.{Amount}
+use Rattle.answer.specs.declared.Count.{Count}
+use Rattle.answer.specs.declared.Verdict.{Verdict}
+use Rattle.answer.proofs.Single.{amounts-coincide, counts-coincide, verdicts-coincide}
+use Rattle.steps.specs.Distance.{seaLevelStep, combineStep, gridStep}
+use Rattle.steps.specs.Azimuth.{fromMarkStep, onwardStep, misclosureStep, misclosureTest, balancedStep}
+use Rattle.steps.specs.Share.{shareStep, angleShareStep}
+use Rattle.steps.specs.Course.{Axis, courseStep, courseStepIn}
+use Rattle.steps.specs.Closure.{closureTest, precisionStep}
+use Rattle.steps.specs.Area.{areaStep}
+
+module _ (x y : Count) where
+  pub sea-level-single : (elevation : ℤ) → toldCount x ≡ seaLevelStep elevation → toldCount y ≡ seaLevelStep elevation → x ≡ y
+  sea-level-single elevation = counts-coincide (seaLevelStep elevation) x y
+
+  pub combine-single : (sea scale : ℕ) → toldCount x ≡ combineStep sea scale → toldCount y ≡ combineStep sea scale → x ≡ y
+  combine-single sea scale = counts-coincide (combineStep sea scale) x y
+
+  pub grid-single : (distance factor : ℕ) → toldCount x ≡ gridStep distance factor → toldCount y ≡ gridStep distance factor → x ≡ y
+  grid-single distance factor = counts-coincide (gridStep distance factor) x y
+
+  pub from-mark-single : (mark angle : ℕ) → toldCount x ≡ fromMarkStep mark angle → toldCount y ≡ fromMarkStep mark angle → x ≡ y
+  from-mark-single mark angle = counts-coincide (fromMarkStep mark angle) x y
+
+  pub onward-single : (before angle : ℕ) → toldCount x ≡ onwardStep before angle → toldCount y ≡ onwardStep before angle → x ≡ y
+  onward-single before angle = counts-coincide (onwardStep before angle) x y
+
+  pub balanced-single : (azimuth : ℕ) (share : ℤ) → toldCount x ≡ balancedStep azimuth share → toldCount y ≡ balancedStep azimuth share → x ≡ y
+  balanced-single azimuth share = counts-coincide (balancedStep azimuth share) x y
+
+  pub precision-single : (north east : ℤ) (s : ℕ) → toldCount x ≡ precisionStep north east s → toldCount y ≡ precisionStep north east s → x ≡ y
+  precision-single north east s = counts-coincide (precisionStep north east s) x y
+
+module _ (x y : Amount) where
+  pub misclosure-single : (carried given : ℕ) → told x ≡ misclosureStep carried given → told y ≡ misclosureStep carried given → x ≡ y
+  misclosure-single carried given = amounts-coincide (misclosureStep carried given) x y
+
+  pub share-single : (closure : ℤ) (part whole : ℕ) → told x ≡ shareStep closure part whole → told y ≡ shareStep closure part whole → x ≡ y
+  share-single closure part whole = amounts-coincide (shareStep closure part whole) x y
+
+  pub angle-share-single : (w : ℤ) (j n : ℕ) → told x ≡ angleShareStep w j n → told y ≡ angleShareStep w j n → x ≡ y
+  angle-share-single w j n = amounts-coincide (angleShareStep w j n) x y
+
+  -- `latitude` is the axis north, `departure` the axis east
+  pub course-single : (axis : Axis) (distance azimuth : ℕ) → told x ≡ courseStep axis distance azimuth → told y ≡ courseStep axis distance azimuth → x ≡ y
+  course-single axis distance azimuth = amounts-coincide (courseStep axis distance azimuth) x y
+
+  -- `latitude_in` and `departure_in`
+  pub course-in-single : (table : List ℕ) (axis : Axis) (distance azimuth : ℕ) → told x ≡ courseStepIn table axis distance azimuth → told y ≡ courseStepIn table axis distance azimuth → x ≡ y
+  course-in-single table axis distance azimuth = amounts-coincide (courseStepIn table axis distance azimuth) x y
+
+  pub doubled-area-single : (offsets : List ℤ) → told x ≡ areaStep offsets → told y ≡ areaStep offsets → x ≡ y
+  doubled-area-single offsets = amounts-coincide (areaStep offsets) x y
+
+module _ (x y : Verdict) where
+  pub closes-angles-single : (w : ℤ) (n : ℕ) → toldVerdict x ≡ misclosureTest w n → toldVerdict y ≡ misclosureTest w n → x ≡ y
+  closes-angles-single w n = verdicts-coincide (misclosureTest w n) x y
+
+  pub closes-single : (north east : ℤ) (s : ℕ) → toldVerdict x ≡ closureTest north east s → toldVerdict y ≡ closureTest north east s → x ≡ y
+  closes-single north east s = verdicts-coincide (closureTest north east s) x y

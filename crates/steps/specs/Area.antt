@@ -1,0 +1,42 @@
+-- Paper 01, "Closure and compass rule": the doubled area, in units of 0.0001 square foot, clockwise positive.
+use mathlib.Core.Bool.{Bool, true, _&&_}
+use mathlib.Core.List.{List, [], _∷_}
+use Prim.Native.Nat.{ℕ, _+_, _*_, _/_, _%_}
+use lib.Dec.{leb, eqb}
+use lib.ListN.{length, getD}
+use lib.IntN.{ℤ, pos, natAbs, _-ℤ_, _*ℤ_}
+use Rattle.whole.specs.Sum.{sumTo}
+use Rattle.answer.specs.Told.{Told, inRange, inside}
+
+-- a list of offsets holds northing, then easting, of each station
+abbrev pub northing : List ℤ → ℕ → ℤ
+northing offsets i = getD offsets (2 * i) (pos 0)
+
+abbrev pub easting : List ℤ → ℕ → ℤ
+easting offsets i = getD offsets (2 * i + 1) (pos 0)
+
+abbrev pub stations : List ℤ → ℕ
+stations offsets = length offsets / 2
+
+-- N_i E_j - N_j E_i
+unfoldable pub cross : List ℤ → ℕ → ℕ → ℤ
+cross offsets i j = northing offsets i *ℤ easting offsets j -ℤ northing offsets j *ℤ easting offsets i
+
+-- the station after i, round to the first
+unfoldable pub nextStation : List ℤ → ℕ → ℕ
+nextStation offsets i = (i + 1) % stations offsets
+
+-- "the sum round stations 0 to n-1 of N_i E_(i+1) - N_(i+1) E_i"
+unfoldable pub doubledTo : List ℤ → ℕ → ℤ
+doubledTo offsets n = sumTo (λ (i : ℕ). cross offsets i (nextStation offsets i)) n
+
+abbrev pub doubled : List ℤ → ℤ
+doubled offsets = doubledTo offsets (stations offsets)
+
+-- ---- the step: "1 to 64 stations with offsets of size up to 130,000,000"
+unfoldable pub small : List ℤ → Bool
+small [] = true
+small (z ∷ zs) = leb (natAbs z) 130000000 && small zs
+
+abbrev pub areaStep : List ℤ → Told
+areaStep offsets = inRange (inside 2 128 (length offsets) && eqb (length offsets % 2) 0 && small offsets) (doubled offsets)

@@ -1,0 +1,6 @@
+pub mod Area
+pub mod Azimuth
+pub mod Closure
+pub mod Course
+pub mod Distance
+pub mod Share

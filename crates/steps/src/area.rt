@@ -1,0 +1,88 @@
+// The doubled area of a loop, by its stations' offsets: northing, then easting, of each.
+use answer::Amount;
+use whole::Whole;
+ghost use mathlib.Core.Path.{_≡_};
+ghost use mathlib.Core.Bool.{true};
+ghost use Prim.Native.Nat.{_+_, _*_, _<_, _≤_};
+ghost use lib.ListN.{length, getD};
+ghost use lib.IntN.{pos, natAbs};
+ghost use Rattle.answer.specs.Told.{told};
+ghost use Rattle.steps.specs.Area.{areaStep, cross as Area·cross, doubled, small};
+
+fn word(offsets: &[i64], at: usize) -> Whole
+    requires { ⌜ at < length (now offsets) ⌝ }
+    ensures { λ r. ⌜ r .v ≡ getD (now (offsets .entry)) at (pos 0) ⌝ }
+{
+    Whole { v: offsets[at] }
+}
+
+// Whether every offset is within its range.
+fn all_small(offsets: &[i64]) -> bool
+    ensures { λ r. ⌜ r ≡ small (now (offsets .entry)) ⌝ }
+{
+    let mut i: usize = 0;
+    while i < offsets.len() {
+        if 130000000 < word(offsets, i).size() {
+            return false;
+        }
+        i += 1;
+    }
+    true
+}
+
+// An offset that is known to be within its range.
+fn offset(offsets: &[i64], at: usize) -> Whole
+    requires { ⌜ small (now offsets) ≡ true ⌝ }
+    requires { ⌜ at < length (now offsets) ⌝ }
+    ensures is { λ r. ⌜ r .v ≡ getD (now (offsets .entry)) at (pos 0) ⌝ }
+    ensures size { λ r. ⌜ natAbs (r .v) ≤ 130000000 ⌝ }
+{
+    word(offsets, at)
+}
+
+// Twice the area of the triangle that stations i and j make with the origin.
+fn cross(offsets: &[i64], i: usize, j: usize) -> Whole
+    requires { ⌜ small (now offsets) ≡ true ⌝ }
+    requires { ⌜ (2 * i + 1 < length (now offsets)) × (2 * j + 1 < length (now offsets)) ⌝ }
+    ensures is { λ r. ⌜ r .v ≡ Area·cross (now (offsets .entry)) i j ⌝ }
+    ensures size { λ r. ⌜ natAbs (r .v) ≤ 33800000000000000 ⌝ }
+{
+    let ahead = offset(offsets, 2 * i).times(offset(offsets, 2 * j + 1));
+    let back = offset(offsets, 2 * j).times(offset(offsets, 2 * i + 1));
+    ahead.minus(back)
+}
+
+// The sum round the stations.
+fn round(offsets: &[i64], n: usize) -> Whole
+    requires { ⌜ small (now offsets) ≡ true ⌝ }
+    requires { ⌜ (2 * n ≡ length (now offsets)) × (0 < n) × (n ≤ 64) ⌝ }
+    ensures { λ r. ⌜ r .v ≡ doubled (now (offsets .entry)) ⌝ }
+{
+    let mut sum = Whole { v: 0 };
+    let mut i: usize = 0;
+    while i < n {
+        sum = sum.plus(cross(offsets, i, (i + 1) % n));
+        i += 1;
+    }
+    sum
+}
+
+// The doubled area of 1 to 64 stations.
+pub fn doubled_area(offsets: &[i64]) -> Amount
+    ensures { λ r. ⌜ told r ≡ areaStep (now (offsets .entry)) ⌝ }
+{
+    let words = offsets.len();
+    if words < 2 {
+        return Amount::OutOfRange;
+    }
+    if 128 < words {
+        return Amount::OutOfRange;
+    }
+    if words % 2 != 0 {
+        return Amount::OutOfRange;
+    }
+    if all_small(offsets) {
+        return Amount::Is(round(offsets, words / 2));
+    }
+    Amount::OutOfRange
+}

@@ -1,0 +1,8 @@
+// The arithmetic steps of paper 01, a module for each subject. Each takes any input: where it is out of the range stated with the step, the answer
+// tells 4, place 0.
+pub mod area;
+pub mod azimuth;
+pub mod closure;
+pub mod course;
+pub mod distance;
+pub mod share;

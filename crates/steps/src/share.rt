@@ -1,0 +1,55 @@
+// The one share rule, for seconds and for feet: the share of a total at a part of a whole, so that the last share is the whole total.
+use answer::Amount;
+use whole::Whole;
+ghost use mathlib.Core.Path.{_≡_};
+ghost use Prim.Native.Nat.{_+_, _≤_, _<_};
+ghost use lib.IntN.{natAbs};
+ghost use Rattle.answer.specs.Told.{told};
+ghost use Rattle.steps.specs.Share.{share as Share·share, shareStep, angleShareStep};
+
+fn share_of(total: Whole, part: u64, whole: u64) -> Whole
+    requires { ⌜ natAbs (total .v) ≤ 6480000 ⌝ }
+    requires { ⌜ part ≤ whole ⌝ }
+    requires { ⌜ (0 < whole) × (whole ≤ 1300000000) ⌝ }
+    ensures { λ r. ⌜ r .v ≡ Share·share (total .v) part whole ⌝ }
+{
+    Whole::of_size(part).times(total).nearest(whole)
+}
+
+// The share of a closure at a station: the part is the distance run so far, the whole the sum of grid distances.
+pub fn share(closure: Whole, part: u64, whole: u64) -> Amount
+    ensures { λ r. ⌜ told r ≡ shareStep (closure .v) part whole ⌝ }
+{
+    if 26000 < closure.size() {
+        return Amount::OutOfRange;
+    }
+    if whole < 1 {
+        return Amount::OutOfRange;
+    }
+    if 1300000000 < whole {
+        return Amount::OutOfRange;
+    }
+    if whole < part {
+        return Amount::OutOfRange;
+    }
+    Amount::Is(share_of(closure, part, whole))
+}
+
+// The share of a misclosure at the j-th of n + 1 angles.
+pub fn angle_share(w: Whole, j: u64, n: u64) -> Amount
+    ensures { λ r. ⌜ told r ≡ angleShareStep (w .v) j n ⌝ }
+{
+    if 6480000 < w.size() {
+        return Amount::OutOfRange;
+    }
+    if n < 1 {
+        return Amount::OutOfRange;
+    }
+    if 64 < n {
+        return Amount::OutOfRange;
+    }
+    if n + 1 < j {
+        return Amount::OutOfRange;
+    }
+    Amount::Is(share_of(w, j, n + 1))
+}
