@@ -8,7 +8,7 @@ use lib.IntN.{ℤ, pos, negsuc, negℤ, natAbs, _+ℤ_}
 use lib.Signed.{ltZ, leZ}
 use Rattle.whole.specs.Nearest.{halfUp}
 use Rattle.whole.proofs.Diff.{ints, same}
-use Rattle.whole.proofs.Machine.{sign-below, sign-above}
+use Rattle.whole.proofs.Machine.{sign-below, sign-above, range-below, range-above}
 use Rattle.steps.specs.Distance.{seaLevel}
 
 -- -1,000..20,000
@@ -21,10 +21,10 @@ module _ (e : ℤ) (feet : ℕ) (below : Bool) (f : feet ≡ natAbs e) (b : belo
     s = sign-below e (sym b ∙ t)
 
     pub below-good : feet ≤ 1000 → good e ≡ true
-    below-good h = rw (s .1) (rw (le-leb (s .0) 999 (omega (arith, f ∙ ap natAbs (s .1)))))
+    below-good h = sym (range-below e feet 1000 20000 f (sym b ∙ t)) ∙ le-leb feet 1000 h
 
     pub below-not : 1000 < feet → good e ≡ false
-    below-not h = rw (s .1) (rw (lt-leb (s .0) 999 (omega (arith, f ∙ ap natAbs (s .1)))))
+    below-not h = sym (range-below e feet 1000 20000 f (sym b ∙ t)) ∙ lt-leb feet 1000 h
 
     pub sea-below : (r : ℕ) → r ≡ halfUp 209060000000000 (20906000 - feet) → feet ≤ 1000 → r ≡ seaLevel e
     unfolding seaLevel
@@ -38,10 +38,10 @@ module _ (e : ℤ) (feet : ℕ) (below : Bool) (f : feet ≡ natAbs e) (b : belo
     u = sign-above e (sym b ∙ t)
 
     pub above-good : feet ≤ 20000 → good e ≡ true
-    above-good h = rw (u .1) (le-leb (u .0) 20000 (omega (arith, f ∙ ap natAbs (u .1))))
+    above-good h = sym (range-above e feet 1000 20000 f (sym b ∙ t)) ∙ le-leb feet 20000 h
 
     pub above-not : 20000 < feet → good e ≡ false
-    above-not h = rw (u .1) (lt-leb (u .0) 20000 (omega (arith, f ∙ ap natAbs (u .1))))
+    above-not h = sym (range-above e feet 1000 20000 f (sym b ∙ t)) ∙ lt-leb feet 20000 h
 
     pub sea-above : (r : ℕ) → r ≡ halfUp 209060000000000 (20906000 + feet) → r ≡ seaLevel e
     unfolding seaLevel

@@ -1,14 +1,14 @@
 -- What the needs of signed code ask, said of the integers themselves. A signed value passes through its bits, so a need speaks of `back z` where the
 -- code says z; below 2 ^ 63 in size that is z again, for every operation and test alike. Assumes nothing.
 use mathlib.Core.Path.{_≡_, refl, sym, _∙_, ap, subst}
-use mathlib.Core.Bool.{Bool, true, false, not}
-use Prim.Native.Nat.{ℕ, _+_, _-_, _*_, _^_, _≤_, _<_}
+use mathlib.Core.Bool.{Bool, true, false, not, _&&_, and-true}
+use Prim.Native.Nat.{ℕ, zero, suc, _+_, _-_, _*_, _^_, _≤_, _<_}
 use native.Mathlib.Nat.{mul-lt-mul-of-pos-right, mul-le-mul-left, lt-of-le-of-lt, le-of-lt}
 use native.Mathlib.Omega.{arith}
-use lib.Dec.{T}
+use lib.Dec.{T, leb, leb·zero, leb·suc-zero, leb·suc-suc}
 use borrow.Author.Tests.{ltb-true}
 use lib.IntN.{ℤ, pos, negsuc, negℤ, natAbs, _+ℤ_, _-ℤ_, _*ℤ_, negℤ-negℤ, +ℤ-idl}
-use lib.Signed.{ltZ, nonNeg, mag, ltZ-yes, ltZ-no}
+use lib.Signed.{ltZ, leZ, nonNeg, mag, ltZ-yes, ltZ-no}
 use mir.Syntax.{w64}
 use mir.Val.{SFits, Fits, toZ, ofZ}
 use mir.Facts.{toZ-ofZ}
@@ -94,6 +94,21 @@ sign-below (negsuc n) e = (n, refl)
 pub sign-above : (z : ℤ) → ltZ z (pos 0) ≡ false → (n : ℕ) × (z ≡ pos n)
 sign-above (pos n) e = (n, refl)
 sign-above (negsuc n) e = absurd (subst T e tt)
+
+-- a range -low..high, which the code tests on the size by the sign
+pub range-below : (z : ℤ) (n low high : ℕ) → n ≡ natAbs z → ltZ z (pos 0) ≡ true → leb n low ≡ (leZ (negℤ (pos low)) z && leZ z (pos high))
+range-below z n low high f e = let s = sign-below z e in rw (f, s .1) (go low (s .0))
+  where
+    go : (low n : ℕ) → leb (suc n) low ≡ (leZ (negℤ (pos low)) (negsuc n) && true)
+    go zero n = leb·suc-zero n
+    go (suc low) n = leb·suc-suc n low ∙ sym (and-true (leb n low))
+
+pub range-above : (z : ℤ) (n low high : ℕ) → n ≡ natAbs z → ltZ z (pos 0) ≡ false → leb n high ≡ (leZ (negℤ (pos low)) z && leZ z (pos high))
+range-above z n low high f e = let s = sign-above z e in rw (f, s .1) (go low (s .0))
+  where
+    go : (low n : ℕ) → leb n high ≡ (leZ (negℤ (pos low)) (pos n) && leb n high)
+    go zero n = rw (leb·zero n)
+    go (suc low) n = refl
 
 -- ---- by the sign. Of an amount below zero the code takes one more, turns the sign, and adds the one again: so it does for the least i64 too
 back-all : (z : ℤ) → mag z < 2 ^ 63 → back z ≡ z

@@ -1,0 +1,11 @@
+pub mod Back
+pub mod Bodies
+pub mod Branch
+pub mod Numbers
+pub mod Round
+pub mod Rows
+pub mod Single
+pub mod Stores
+pub mod Tests
+pub mod Walk
+pub mod Ways

@@ -1,0 +1,4 @@
+pub mod Bytes
+pub mod Record
+pub mod Tape
+pub mod Write

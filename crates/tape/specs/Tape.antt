@@ -1,0 +1,119 @@
+-- Paper 01, "The tape" and "Nine refusals": the reading that stands before refusals 8 and 9. For every list of bytes it is the state at the end, or
+-- the refusal with its place.
+use mathlib.Core.Bool.{Bool, true, false, cond, _&&_, _||_}
+use mathlib.Core.List.{List, [], _∷_, _++_}
+use Prim.Native.Nat.{ℕ, zero, suc, _+_, _-_}
+use lib.Dec.{leb, ltb, eqb}
+use lib.ListN.{length, getD}
+use lib.IntN.{ℤ, pos, natAbs}
+use Rattle.tape.specs.declared.State.{State}
+use Rattle.tape.specs.declared.Step.{Step}
+use Rattle.tape.specs.declared.Step.the-variants.{Next, Stop}
+use Rattle.tape.specs.declared.Reading.{Reading}
+use Rattle.tape.specs.declared.Reading.the-variants.{Refused, Reads}
+use Rattle.tape.specs.Record.{Rec, bodyOf, numbersOf, goodOf, bytesOf}
+
+-- ---- "Order: 0 to 600 rows ..; one project; one start; 1 to 64 legs; one close; end."
+-- phase 0 waits for rows or the project, 1 for the start, 2 for legs or the close, 3 for the end
+unfoldable pub mayCome : State → ℕ → Bool
+mayCome st k =
+    cond (eqb (st .phase) 0) (eqb k 5 || eqb k 1)
+    (cond (eqb (st .phase) 1) (eqb k 2)
+    (cond (eqb (st .phase) 2) (eqb k 3 || (eqb k 4 && ltb 0 (st .legs)))
+    false))
+
+-- the 601st row is refused with 5, the 65th leg with 6; 0 where there is room
+unfoldable pub roomOf : State → ℕ → ℕ
+roomOf st k = cond (eqb k 5) (cond (ltb (st .rows) 600) 0 5) (cond (eqb k 3) (cond (ltb (st .legs) 64) 0 6) 0)
+
+-- "each one minute above the row before": else 5. The first row has none before it
+unfoldable pub rowNext : State → ℕ → Step
+rowNext st minute =
+    cond (eqb (st .rows) 0 || eqb minute (st .next))
+    (Next (record { phase = 0; rows = st .rows + 1; next = minute + 1; legs = st .legs }))
+    (Stop 5)
+
+-- "no row for the mean latitude": 7. The rows have the minutes from next - rows to next - 1
+unfoldable pub projectNext : State → ℕ → Step
+projectNext st latitude =
+    cond (ltb latitude (st .next) && leb (st .next - latitude) (st .rows))
+    (Next (record { phase = 1; rows = st .rows; next = st .next; legs = st .legs }))
+    (Stop 7)
+
+-- the first number of a record, a minute for rows and the project
+abbrev pub firstOf : List ℤ → ℕ
+firstOf vs = natAbs (getD vs 0 (pos 0))
+
+-- what follows a record that is whole and in range
+unfoldable pub afterOf : State → ℕ → List ℤ → Step
+afterOf st k vs =
+    cond (eqb k 5) (rowNext st (firstOf vs))
+    (cond (eqb k 1) (projectNext st (firstOf vs))
+    (cond (eqb k 2) (Next (record { phase = 2; rows = st .rows; next = st .next; legs = st .legs }))
+    (cond (eqb k 3) (Next (record { phase = 2; rows = st .rows; next = st .next; legs = st .legs + 1 }))
+    (Next (record { phase = 3; rows = st .rows; next = st .next; legs = st .legs })))))
+
+-- ---- "in a record: its kind (3), the 601st row or 65th leg (5, 6), its body whole (2), its fields in order (4), then row succession (5) or the row for
+-- the latitude (7)": the order of the tests is the shape of these two
+unfoldable pub takeOf : State → ℕ → Bool → List ℤ → Step
+takeOf st k whole vs =
+    cond (eqb (roomOf st k) 0)
+    (cond whole (cond (goodOf k vs) (afterOf st k vs) (Stop 4)) (Stop 2))
+    (Stop (roomOf st k))
+
+unfoldable pub judge : State → ℕ → Bool → List ℤ → Step
+judge st k whole vs = cond (mayCome st k) (takeOf st k whole vs) (Stop 3)
+
+-- the record at the front of l
+unfoldable pub stepOf : State → List ℕ → Step
+stepOf st l = let k = getD l 0 0 in judge st k (ltb (bodyOf k) (length l)) (numbersOf k l)
+
+-- ---- the tape from a record on: at is its place, and n bytes of the record before are still to pass. A refusal's place is the record's first byte;
+-- where the tape ends before a close is read, the place is its length
+abbrev pub onStep : Step → ℕ → (State → Reading) → Reading
+onStep (Next st) at f = f st
+onStep (Stop n) at f = Refused n at
+
+abbrev pub atEnd : State → ℕ → Reading
+atEnd st at = cond (eqb (st .phase) 3) (Reads st) (Refused 2 at)
+
+unfoldable pub walk : State → ℕ → ℕ → List ℕ → Reading
+walk st at n [] = atEnd st at
+walk st at (suc n) (x ∷ l) = walk st at n l
+walk st at zero (x ∷ l) = onStep (stepOf st (x ∷ l)) at (λ st′. walk st′ (at + 1 + bodyOf x) (bodyOf x) l)
+
+abbrev pub start : State
+start = record { phase = 0; rows = 0; next = 0; legs = 0 }
+
+unfoldable pub readingOf : List ℕ → Reading
+readingOf tape = walk start 0 0 tape
+
+-- ---- the fields of a tape are its records; and the tape of some records
+unfoldable pub recordsFrom : ℕ → List ℕ → List Rec
+recordsFrom n [] = []
+recordsFrom (suc n) (x ∷ l) = recordsFrom n l
+recordsFrom zero (x ∷ l) = record { kind = x; values = numbersOf x (x ∷ l) } ∷ recordsFrom (bodyOf x) l
+
+abbrev pub recordsOf : List ℕ → List Rec
+recordsOf tape = recordsFrom 0 tape
+
+unfoldable pub tapeOf : List Rec → List ℕ
+tapeOf [] = []
+tapeOf (r ∷ rs) = bytesOf (r .kind) (r .values) ++ tapeOf rs
+
+-- the same tests over records, whose bodies are whole: what refusal "tried before 8" some fields meet
+unfoldable pub runOf : State → ℕ → List Rec → Reading
+runOf st at [] = atEnd st at
+runOf st at (r ∷ rs) = onStep (judge st (r .kind) true (r .values)) at (λ st′. runOf st′ (at + 1 + bodyOf (r .kind)) rs)
+
+abbrev pub fieldsRead : List Rec → Reading
+fieldsRead rs = runOf start 0 rs
+
+-- ---- what is told
+pub record Told : Type 0 where
+  pub number : ℕ
+  pub place : ℕ
+
+abbrev pub told : Reading → Told
+told (Reads st) = record { number = 0; place = 0 }
+told (Refused n p) = record { number = n; place = p }

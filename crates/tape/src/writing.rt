@@ -1,0 +1,220 @@
+// The writer of one record of each kind. Each tries its room, then its fields, and lends the rest of the bytes on to the one that stores them.
+use crate::Written;
+use crate::ranges;
+use whole::Whole;
+ghost use mathlib.Core.Path.{_≡_};
+ghost use mathlib.Core.List.{_++_, [], _∷_};
+ghost use Prim.Native.Nat.{_+_, _≤_};
+ghost use lib.ListN.{length, drop, set};
+ghost use lib.Seq.{sets};
+ghost use lib.IntN.{pos, natAbs};
+ghost use Rattle.tape.specs.Bytes.{two, four, bytes, written};
+ghost use Rattle.tape.specs.Record.{goodOf, bytesOf};
+ghost use Rattle.tape.specs.Write.{Wrote};
+
+// ---- a kind, and numbers, the high byte first
+fn put_kind(out: &mut [u8], kind: u8)
+    requires { ⌜ 1 ≤ length (now out) ⌝ }
+    ensures { λ r. ⌜ now (out .exit) ≡ set (now (out .entry)) 0 kind ⌝ }
+{
+    out[0] = kind;
+}
+
+fn put_two(out: &mut [u8], at: usize, n: u32)
+    requires { ⌜ at + 2 ≤ length (now out) ⌝ }
+    ensures { λ r. ⌜ now (out .exit) ≡ sets (now (out .entry)) at (bytes two n) ⌝ }
+{
+    out[at] = (n / 256 % 256) as u8;
+    out[at + 1] = (n % 256) as u8;
+}
+
+fn put_four(out: &mut [u8], at: usize, n: u32)
+    requires { ⌜ at + 4 ≤ length (now out) ⌝ }
+    ensures { λ r. ⌜ now (out .exit) ≡ sets (now (out .entry)) at (bytes four n) ⌝ }
+{
+    out[at] = (n / 16777216 % 256) as u8;
+    out[at + 1] = (n / 65536 % 256) as u8;
+    out[at + 2] = (n / 256 % 256) as u8;
+    out[at + 3] = (n % 256) as u8;
+}
+
+// What two bytes hold of an elevation.
+fn raw(elevation: Whole) -> u32
+    requires { ⌜ natAbs (elevation .v) ≤ 20000 ⌝ }
+    ensures { λ r. ⌜ r ≡ written two (elevation .v) ⌝ }
+{
+    let feet = elevation.size() as u32;
+    if elevation.below_zero() {
+        return 65536 - feet;
+    }
+    feet
+}
+
+// ---- a record at the front of the bytes lent on
+fn put_row(out: &mut [u8], minute: u32, factor: u32)
+    requires { ⌜ 7 ≤ length (now out) ⌝ }
+    ensures { λ r. ⌜ now (out .exit) ≡ bytesOf 5 (pos minute ∷ pos factor ∷ []) ++ drop 7 (now (out .entry)) ⌝ }
+{
+    put_kind(out, 5);
+    put_two(out, 1, minute);
+    put_four(out, 3, factor);
+}
+
+fn put_project(out: &mut [u8], latitude: u32, elevation: Whole)
+    requires { ⌜ 5 ≤ length (now out) ⌝ }
+    requires { ⌜ natAbs (elevation .v) ≤ 20000 ⌝ }
+    ensures { λ r. ⌜ now (out .exit) ≡ bytesOf 1 (pos latitude ∷ elevation .v ∷ []) ++ drop 5 (now (out .entry)) ⌝ }
+{
+    let feet = raw(elevation);
+    put_kind(out, 1);
+    put_two(out, 1, latitude);
+    put_two(out, 3, feet);
+}
+
+fn put_start(out: &mut [u8], northing: u32, easting: u32, mark: u32)
+    requires { ⌜ 13 ≤ length (now out) ⌝ }
+    ensures { λ r. ⌜ now (out .exit) ≡ bytesOf 2 (pos northing ∷ pos easting ∷ pos mark ∷ []) ++ drop 13 (now (out .entry)) ⌝ }
+{
+    put_kind(out, 2);
+    put_four(out, 1, northing);
+    put_four(out, 5, easting);
+    put_four(out, 9, mark);
+}
+
+fn put_leg(out: &mut [u8], angle: u32, distance: u32)
+    requires { ⌜ 9 ≤ length (now out) ⌝ }
+    ensures { λ r. ⌜ now (out .exit) ≡ bytesOf 3 (pos angle ∷ pos distance ∷ []) ++ drop 9 (now (out .entry)) ⌝ }
+{
+    put_kind(out, 3);
+    put_four(out, 1, angle);
+    put_four(out, 5, distance);
+}
+
+fn put_close(out: &mut [u8], angle: u32, northing: u32, easting: u32, mark: u32)
+    requires { ⌜ 17 ≤ length (now out) ⌝ }
+    ensures { λ r. ⌜ now (out .exit) ≡ bytesOf 4 (pos angle ∷ pos northing ∷ pos easting ∷ pos mark ∷ []) ++ drop 17 (now (out .entry)) ⌝ }
+{
+    put_kind(out, 4);
+    put_four(out, 1, angle);
+    put_four(out, 5, northing);
+    put_four(out, 9, easting);
+    put_four(out, 13, mark);
+}
+
+// ---- a record at any place of any bytes
+pub fn write_row(out: &mut [u8], place: usize, minute: u32, factor: u32) -> Written
+    ensures { λ r. ⌜ Wrote (now (out .entry)) (now (out .exit)) place (goodOf 5 (pos minute ∷ pos factor ∷ [])) (bytesOf 5 (pos minute ∷ pos factor ∷ [])) r ⌝ }
+{
+    if out.len() < place {
+        return Written::Refused {
+            number: 1,
+            place: 0,
+        };
+    }
+    if out.len() - place < 7 {
+        return Written::Refused {
+            number: 1,
+            place: 0,
+        };
+    }
+    if ranges::row_good(minute, factor) {
+        put_row(&mut out[place..], minute, factor);
+        return Written::Until(place + 7);
+    }
+    Written::Refused { number: 4, place }
+}
+
+pub fn write_project(out: &mut [u8], place: usize, latitude: u32, elevation: Whole) -> Written
+    ensures { λ r. ⌜ Wrote (now (out .entry)) (now (out .exit)) place (goodOf 1 (pos latitude ∷ elevation .v ∷ [])) (bytesOf 1 (pos latitude ∷ elevation .v ∷ [])) r ⌝ }
+{
+    if out.len() < place {
+        return Written::Refused {
+            number: 1,
+            place: 0,
+        };
+    }
+    if out.len() - place < 5 {
+        return Written::Refused {
+            number: 1,
+            place: 0,
+        };
+    }
+    if ranges::project_good(latitude, elevation) {
+        put_project(&mut out[place..], latitude, elevation);
+        return Written::Until(place + 5);
+    }
+    Written::Refused { number: 4, place }
+}
+
+pub fn write_start(out: &mut [u8], place: usize, northing: u32, easting: u32, mark: u32) -> Written
+    ensures { λ r. ⌜ Wrote (now (out .entry)) (now (out .exit)) place (goodOf 2 (pos northing ∷ pos easting ∷ pos mark ∷ [])) (bytesOf 2 (pos northing ∷ pos easting ∷ pos mark ∷ [])) r ⌝ }
+{
+    if out.len() < place {
+        return Written::Refused {
+            number: 1,
+            place: 0,
+        };
+    }
+    if out.len() - place < 13 {
+        return Written::Refused {
+            number: 1,
+            place: 0,
+        };
+    }
+    if ranges::start_good(northing, easting, mark) {
+        put_start(&mut out[place..], northing, easting, mark);
+        return Written::Until(place + 13);
+    }
+    Written::Refused { number: 4, place }
+}
+
+pub fn write_leg(out: &mut [u8], place: usize, angle: u32, distance: u32) -> Written
+    ensures { λ r. ⌜ Wrote (now (out .entry)) (now (out .exit)) place (goodOf 3 (pos angle ∷ pos distance ∷ [])) (bytesOf 3 (pos angle ∷ pos distance ∷ [])) r ⌝ }
+{
+    if out.len() < place {
+        return Written::Refused {
+            number: 1,
+            place: 0,
+        };
+    }
+    if out.len() - place < 9 {
+        return Written::Refused {
+            number: 1,
+            place: 0,
+        };
+    }
+    if ranges::leg_good(angle, distance) {
+        put_leg(&mut out[place..], angle, distance);
+        return Written::Until(place + 9);
+    }
+    Written::Refused { number: 4, place }
+}
+
+pub fn write_close(
+    out: &mut [u8],
+    place: usize,
+    angle: u32,
+    northing: u32,
+    easting: u32,
+    mark: u32,
+) -> Written
+    ensures { λ r. ⌜ Wrote (now (out .entry)) (now (out .exit)) place (goodOf 4 (pos angle ∷ pos northing ∷ pos easting ∷ pos mark ∷ [])) (bytesOf 4 (pos angle ∷ pos northing ∷ pos easting ∷ pos mark ∷ [])) r ⌝ }
+{
+    if out.len() < place {
+        return Written::Refused {
+            number: 1,
+            place: 0,
+        };
+    }
+    if out.len() - place < 17 {
+        return Written::Refused {
+            number: 1,
+            place: 0,
+        };
+    }
+    if ranges::close_good(angle, northing, easting, mark) {
+        put_close(&mut out[place..], angle, northing, easting, mark);
+        return Written::Until(place + 17);
+    }
+    Written::Refused { number: 4, place }
+}
