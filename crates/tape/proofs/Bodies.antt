@@ -1,62 +1,135 @@
--- Records by their kind: the room of a body, the fields of a kind, and what follows, where the kind is known.
-use mathlib.Core.Path.{_≡_, refl}
-use mathlib.Core.Bool.{Bool, true, false, cond}
-use mathlib.Core.List.{List, []}
+-- Records in code: what a function says of the case that it found holds of the record given, and the record of a known kind has the bytes and fields
+-- of that kind's row.
+use mathlib.Core.Path.{_≡_, refl, sym, subst}
+use mathlib.Core.Bool.{Bool, true, false, cond, _&&_, _||_, and-eq-true-iff}
+use mathlib.Core.List.{List, _++_}
 use Prim.Native.Nat.{ℕ, _+_, _≤_, _<_}
 use native.Mathlib.Omega.{arith}
-use borrow.Author.Tests.{ltb-true}
+use borrow.Author.Tests.{ltb-true, leb-true, eqb-true}
 use lib.Dec.{T, leb, eqb, ltb, leb→le, eqb→eq}
-use lib.ListN.{drop}
+use lib.ListN.{length, drop}
+use lib.IntN.{ℤ, pos, negsuc, negℤ, natAbs}
+use lib.Signed.{leZ}
 use mir.Syntax.{w32}
 use mir.Val.{Fits}
+use Rattle.whole.specs.declared.Whole.{Whole}
+use Rattle.tape.specs.declared.Record.{Record}
+use Rattle.tape.specs.declared.Record.the-variants as kinds
 use Rattle.tape.specs.declared.State.{State}
 use Rattle.tape.specs.declared.Step.{Step}
-use Rattle.tape.specs.Bytes.{num, two, meant}
-use Rattle.tape.specs.Record.{fieldsOf, table, bodyOf, goodOf, numbersOf}
-use Rattle.tape.proofs.Numbers.{num-drop}
-use Rattle.tape.specs.Tape.{roomOf, afterOf, rowNext, projectNext}
+use Rattle.tape.specs.Bytes.{bytes}
+use Rattle.tape.specs.Record.{Rec, rec, fieldsOf, table, bodyOf, goodOf, numbersOf, bytesOf, recOf, goodRecord, bytesOfRecord}
+use Rattle.tape.specs.Tape.{mayCome, roomOf, afterOf}
+use Rattle.tape.proofs.Branch.{by-test}
 
 -- a choice between lists of fields, taken after a function
 pub cond-ap : {A B : Type 0} (f : A → B) (x y : A) (b : Bool) → f (cond b x y) ≡ cond b (f x) (f y)
 cond-ap f x y true = refl
 cond-ap f x y false = refl
 
--- the room of a body, from the room of the body of its kind
-pub whole : (k n m at len : ℕ) → k ≡ n → T (eqb m (1 + bodyOf n)) → at + (1 + bodyOf k) ≤ len → at + m ≤ len
-whole k n m at len e t h = rw (eqb→eq m (1 + bodyOf n) t, ← e) h
+-- ---- the record given is the case found
+module _ (given found : Record) (e : given ≡ found) where
+  pub found-good : (b : Bool) → b ≡ goodRecord found → b ≡ goodRecord given
+  found-good b h = rw e h
 
--- a record of kind k, where k is n; and one of a kind that has no fields
-pub at-kind : (b : Bool) (k n : ℕ) (l : List ℕ) → k ≡ n → b ≡ goodOf n (numbersOf n l) → b ≡ goodOf k (numbersOf k l)
-at-kind b k n l e h = rw e h
+  pub found-after : (st : State) (r : Step) → r ≡ afterOf st (recOf found .kind) (recOf found .values) → r ≡ afterOf st (recOf given .kind) (recOf given .values)
+  found-after st r h = rw e h
 
-pub no-fields : (k : ℕ) (l : List ℕ) → [] ≡ fieldsOf k → true ≡ goodOf k (numbersOf k l)
-unfolding goodOf numbersOf
-no-fields k l e = rw (← e)
+  pub found-put : (out out′ : List ℕ) → out′ ≡ bytesOfRecord found ++ drop (length (bytesOfRecord found)) out
+      → out′ ≡ bytesOfRecord given ++ drop (length (bytesOfRecord given)) out
+  found-put out out′ h = rw e h
 
--- ---- what follows a row and a project: their first number is the minute, of two bytes
-pub minute-whole : (k n at len : ℕ) → k ≡ n → T (leb 2 (bodyOf n)) → at + (1 + bodyOf k) ≤ len → at + 1 + 2 ≤ len
-minute-whole k n at len e t h = let i : at + (1 + bodyOf n) ≤ len = rw e at h in omega (arith, leb→le 2 (bodyOf n) t)
+  pub found-room : (m n : ℕ) → T (eqb m (length (bytesOfRecord found))) → length (bytesOfRecord given) ≤ n → m ≤ n
+  found-room m n t h = rw (eqb→eq m (length (bytesOfRecord found)) t, ← e) h
 
-module _ (r : Step) (st : State) (k n at : ℕ) (s : List ℕ) where
-  pub after-row : k ≡ 5 → n ≡ num two s (at + 1) → r ≡ rowNext st n → r ≡ afterOf st k (numbersOf k (drop at s))
-  unfolding afterOf numbersOf fieldsOf table meant
-  after-row e f h = rw (e, num-drop two at s 1, ← f) h
+-- its bytes are one for the kind and those of the body
+length-bytes : (r : Record) → length (bytesOfRecord r) ≡ 1 + bodyOf (recOf r .kind)
+unfolding recOf bytesOf bodyOf fieldsOf table bytes
+length-bytes (kinds.Row m f) = refl
+length-bytes (kinds.Project m e) = refl
+length-bytes (kinds.Start n e m) = refl
+length-bytes (kinds.Leg a d) = refl
+length-bytes (kinds.Close a n e m) = refl
 
-  pub after-project : k ≡ 1 → n ≡ num two s (at + 1) → r ≡ projectNext st n → r ≡ afterOf st k (numbersOf k (drop at s))
-  unfolding afterOf numbersOf fieldsOf table meant
-  after-project e f h = rw (e, num-drop two at s 1, ← f) h
+pub length-given : (given : Record) (k n : ℕ) → k ≡ recOf given .kind → n ≡ bodyOf k → length (bytesOfRecord given) ≡ 1 + n
+length-given given k n e f = rw (f, e) (length-bytes given)
 
--- ---- where there is room for a row, or a leg, one more is counted without harm
+-- ---- the record read at a place is the one of the kind there
+module _ (given : Record) (k : ℕ) (vs : List ℤ) (e : recOf given ≡ rec k vs) where
+  pub read-good : (b : Bool) → b ≡ goodRecord given → b ≡ goodOf k vs
+  read-good b h = rw e at h
+
+  pub read-after : (st : State) (r : Step) → r ≡ afterOf st (recOf given .kind) (recOf given .values) → r ≡ afterOf st k vs
+  read-after st r h = rw e at h
+
+  pub read-room : (st : State) (n : ℕ) → n ≡ roomOf st k → n ≡ 0 → roomOf st (recOf given .kind) ≡ 0
+  read-room st n f h = rw (e, ← f) h
+
+-- where the kind is n, the record is of that kind, and its bytes up to m are there
+pub at-kind : (r : Rec) (k n : ℕ) (l : List ℕ) → k ≡ n → r ≡ rec n (numbersOf n l) → r ≡ rec k (numbersOf k l)
+at-kind r k n l e h = rw e h
+
+pub within : (k n at p w len : ℕ) → k ≡ n → at + (1 + bodyOf k) ≤ len → T (leb (p + w) (1 + bodyOf n)) → at + p + w ≤ len
+within k n at p w len e h t = let i : at + (1 + bodyOf n) ≤ len = rw e at h in omega (arith, leb→le (p + w) (1 + bodyOf n) t)
+
+-- what is none of the four others is a close
+module _ (k : ℕ) (a : k ≡ 5 → ⊥) (b : k ≡ 1 → ⊥) (c : k ≡ 2 → ⊥) (d : k ≡ 3 → ⊥) (low : 1 ≤ k) (high : k ≤ 5) where
+  pub is-close : k ≡ 4
+  is-close = omega arith
+
+  pub within-close : (at p w len : ℕ) → at + (1 + bodyOf k) ≤ len → T (leb (p + w) (1 + bodyOf 4)) → at + p + w ≤ len
+  within-close at p w len = within k 4 at p w len is-close
+
+-- ---- a kind that may come is one of the five
+either : {A : Type 0} (p q : Bool) → (p ≡ true → A) → (q ≡ true → A) → (p || q) ≡ true → A
+either true q f g e = f refl
+either false q f g e = g e
+
+module _ (k : ℕ) where
+  abbrev OfFive : Type 0
+  OfFive = (1 ≤ k) × (k ≤ 5)
+
+  is : (n : ℕ) → 1 ≤ n → n ≤ 5 → eqb k n ≡ true → OfFive
+  is n h i e = let f = eqb-true k n e in (omega arith, omega arith)
+
+  pub come-kind : (st : State) → mayCome st k ≡ true → OfFive
+  unfolding mayCome
+  come-kind st =
+      let P : Bool → Type 0 = λ b. b ≡ true → OfFive in
+      by-test P (eqb (st .phase) 0) (λ t. either (eqb k 5) (eqb k 1) (is 5 (omega arith) (omega arith)) (is 1 (omega arith) (omega arith)))
+      (λ t. by-test P (eqb (st .phase) 1) (λ t. is 2 (omega arith) (omega arith))
+      (λ t. by-test P (eqb (st .phase) 2)
+      (λ t. either (eqb k 3) _ (is 3 (omega arith) (omega arith)) (λ e. is 4 (omega arith) (omega arith) (and-eq-true-iff (eqb k 4) _ .0 e .0)))
+      (λ t e. absurd (subst T (sym e) tt))))
+
+-- ---- what a record in range, and a kind with room, tell
+pub project-feet : (given : Record) (latitude : ℕ) (elevation : Whole) → given ≡ kinds.Project latitude elevation → goodRecord given ≡ true
+    → natAbs (elevation .v) ≤ 20000
+unfolding recOf goodOf fieldsOf table
+project-feet given latitude elevation e t = go (elevation .v) (and-eq-true-iff (leb 0 latitude && leb latitude 5400) _ .0 (rw e at t) .1)
+  where
+    go : (z : ℤ) → ((leZ (negℤ (pos 1000)) z && leZ z (pos 20000)) && true) ≡ true → natAbs z ≤ 20000
+    go (pos n) h = leb-true n 20000 (and-eq-true-iff (leb n 20000) true .0 h .0)
+    go (negsuc n) h = omega (arith, leb-true n 999 (and-eq-true-iff (leb n 999) true .0 (and-eq-true-iff (leb n 999 && true) true .0 h .0) .0))
+
+pub row-minute : (given : Record) (minute factor : ℕ) → given ≡ kinds.Row minute factor → goodRecord given ≡ true → minute < 65536
+unfolding recOf goodOf fieldsOf table
+row-minute given minute factor e t =
+    let i = and-eq-true-iff (leb 0 minute && leb minute 5400) _ .0 (rw e at t) .0 in
+    omega (arith, leb-true minute 5400 (and-eq-true-iff (leb 0 minute) (leb minute 5400) .0 i .1))
+
+-- where there is room for a row, or a leg, one more is counted without harm
 left : (p : Bool) (n : ℕ) → 0 < n → cond p 0 n ≡ 0 → p ≡ true
 left true n h e = refl
 left false n h e = absurd (omega arith)
 
-pub row-room : (st : State) (k : ℕ) → k ≡ 5 → roomOf st k ≡ 0 → st .rows < 600
-unfolding roomOf
-row-room st k e h = ltb-true _ _ (left (ltb (st .rows) 600) 5 (omega arith) (rw e at h))
+module _ (st : State) (given : Record) (h : roomOf st (recOf given .kind) ≡ 0) where
+  pub row-room : (minute factor : ℕ) → given ≡ kinds.Row minute factor → st .rows < 600
+  unfolding roomOf recOf
+  row-room minute factor e = ltb-true _ _ (left (ltb (st .rows) 600) 5 (omega arith) (rw e at h))
 
-pub leg-fits : (st : State) (k : ℕ) → k ≡ 3 → roomOf st k ≡ 0 → Fits w32 (st .legs + 1)
-unfolding roomOf
-leg-fits st k e h =
-    let l : st .legs < 64 = ltb-true _ _ (left (ltb (st .legs) 64) 6 (omega arith) (rw e at h)) in
-    omega arith
+  pub leg-fits : (angle distance : ℕ) → given ≡ kinds.Leg angle distance → Fits w32 (st .legs + 1)
+  unfolding roomOf recOf
+  leg-fits angle distance e =
+      let l : st .legs < 64 = ltb-true _ _ (left (ltb (st .legs) 64) 6 (omega arith) (rw e at h)) in
+      omega arith

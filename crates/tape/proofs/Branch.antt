@@ -74,6 +74,10 @@ module _ {A : Type 0} (x y z : A) (f p : Bool) (e : f ≡ p) where
   pub told-no : f ≡ false → x ≡ z → x ≡ cond p y z
   told-no h q = rw (← e, h) q
 
+-- and a flag that came out true
+pub told-true : (f p : Bool) → f ≡ p → f ≡ true → p ≡ true
+told-true f p e h = rw (← e) h
+
 pub ruleset told = (told-eq, told-ne, told-lt, told-ge, told-yes, told-no)
 
 pub ruleset branch = (cond-eq, cond-no, cond-ne, cond-lt, cond-ge, cond-le, cond-gt)

@@ -1,13 +1,12 @@
 -- The tests of a record's fields: `search tests` goes from the code's tests, one bound after the other, to the conjunction of the table's ranges.
 use mathlib.Core.Path.{_≡_, sym, _∙_}
-use mathlib.Core.Bool.{Bool, true, false, _&&_, and-true, and-eq-true-iff}
+use mathlib.Core.Bool.{Bool, true, false, _&&_, and-true}
 use mathlib.Core.List.{[], _∷_}
 use Prim.Native.Nat.{ℕ, _≤_, _<_}
-use native.Mathlib.Omega.{arith}
-use borrow.Author.Tests.{le-leb, lt-leb, leb-true}
+use borrow.Author.Tests.{le-leb, lt-leb}
 use lib.Dec.{leb, leb·zero}
-use lib.IntN.{ℤ, pos, negsuc, negℤ, natAbs}
-use lib.Signed.{ltZ, leZ}
+use lib.IntN.{ℤ, pos, natAbs}
+use lib.Signed.{ltZ}
 use Rattle.whole.proofs.Machine.{range-below, range-above}
 use Rattle.tape.specs.Record.{goodOf, fieldsOf, table}
 
@@ -33,15 +32,6 @@ module _ (latitude n : ℕ) (elevation : ℤ) (b : Bool) (e : n ≡ natAbs eleva
   pub project-above : b ≡ false → leb n 20000 ≡ goodOf 1 (pos latitude ∷ elevation ∷ [])
   unfolding goodOf fieldsOf table
   project-above t = rw (leb·zero latitude, le-leb latitude 5400 h, and-true) (range-above elevation n 1000 20000 e (sym f ∙ t))
-
--- an elevation in range fits two bytes
-pub project-feet : (latitude : ℕ) (elevation : ℤ) (r : Bool) → r ≡ goodOf 1 (pos latitude ∷ elevation ∷ []) → r ≡ true → natAbs elevation ≤ 20000
-unfolding goodOf fieldsOf table
-project-feet latitude elevation r e t = go elevation (and-eq-true-iff (leb 0 latitude && leb latitude 5400) _ .0 (sym e ∙ t) .1)
-  where
-    go : (z : ℤ) → ((leZ (negℤ (pos 1000)) z && leZ z (pos 20000)) && true) ≡ true → natAbs z ≤ 20000
-    go (pos n) h = leb-true n 20000 (and-eq-true-iff (leb n 20000) true .0 h .0)
-    go (negsuc n) h = omega (arith, leb-true n 999 (and-eq-true-iff (leb n 999) true .0 (and-eq-true-iff (leb n 999 && true) true .0 h .0) .0))
 
 -- ---- a close's fields are an angle and those of a start
 pub close-fields : (angle northing easting mark : ℕ) (r : Bool) → angle ≤ 12959999 → r ≡ goodOf 2 (pos northing ∷ pos easting ∷ pos mark ∷ [])

@@ -46,10 +46,7 @@ pub taken : (st st′ : State) (k : ℕ) (q : Bool) (vs : List ℤ) → Next st�
 unfolding judge takeOf
 taken st st′ k q vs e = taken-go st st′ k q vs (mayCome st k) (eqb (roomOf st k) 0) (goodOf k vs) refl refl e
 
-pub step-taken : (st st′ : State) (l : List ℕ) → Next st′ ≡ stepOf st l → Taken st st′ (getD l 0 0) (ltb (bodyOf (getD l 0 0)) (length l)) (numbersOf (getD l 0 0) l)
-unfolding stepOf
-step-taken st st′ l e = taken st st′ _ _ _ e
-
+-- a record at the front that is taken is whole
 pub step-whole : (st st′ : State) (l : List ℕ) → Next st′ ≡ stepOf st l → bodyOf (getD l 0 0) < length l
 unfolding stepOf
 step-whole st st′ l e = let k = getD l 0 0 in ltb-true _ _ (taken st st′ k (ltb (bodyOf k) (length l)) (numbersOf k l) e .whole)

@@ -100,7 +100,7 @@ pub record Rec : Type 0 where
   pub kind : ℕ
   pub values : List ℤ
 
-abbrev rec : ℕ → List ℤ → Rec
+abbrev pub rec : ℕ → List ℤ → Rec
 rec kind values = record { kind = kind; values = values }
 
 unfoldable pub recOf : Record → Rec

@@ -72,27 +72,27 @@ pub fn read(tape: &[u8]) -> Reading
     order::read_all(tape)
 }
 
-// One record, written at a place of the lent bytes; any place may be given.
+// One record, written at a place of the lent bytes: its room is tried, then its fields, and the rest of the bytes lent on to the writer of its kind.
+// Any place may be given.
 pub fn write(out: &mut [u8], place: usize, given: Record) -> Written
     ensures { λ r. ⌜ Wrote (now (out .entry)) (now (out .exit)) place (goodRecord given) (bytesOfRecord given) r ⌝ }
 {
-    match given {
-        Record::Row { minute, factor } => writing::write_row(out, place, minute, factor),
-        Record::Project {
-            latitude,
-            elevation,
-        } => writing::write_project(out, place, latitude, elevation),
-        Record::Start {
-            northing,
-            easting,
-            mark,
-        } => writing::write_start(out, place, northing, easting, mark),
-        Record::Leg { angle, distance } => writing::write_leg(out, place, angle, distance),
-        Record::Close {
-            angle,
-            northing,
-            easting,
-            mark,
-        } => writing::write_close(out, place, angle, northing, easting, mark),
+    let body = ranges::body_len(ranges::kind(given));
+    if out.len() < place {
+        return Written::Refused {
+            number: 1,
+            place: 0,
+        };
     }
+    if out.len() - place <= body {
+        return Written::Refused {
+            number: 1,
+            place: 0,
+        };
+    }
+    if ranges::good(given) {
+        writing::put(&mut out[place..], given);
+        return Written::Until(place + 1 + body);
+    }
+    Written::Refused { number: 4, place }
 }

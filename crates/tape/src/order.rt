@@ -1,14 +1,16 @@
 // The reading of one record of a tape, in the paper's order of tests.
 use crate::Reading;
+use crate::Record;
 use crate::State;
 use crate::Step;
 use crate::digits;
 use crate::ranges;
 ghost use mathlib.Core.Path.{_≡_};
+ghost use mathlib.Core.Bool.{true};
 ghost use Prim.Native.Nat.{_+_, _<_, _≤_};
 ghost use lib.Dec.{ltb};
 ghost use lib.ListN.{length, drop};
-ghost use Rattle.tape.specs.Record.{bodyOf, goodOf, numbersOf};
+ghost use Rattle.tape.specs.Record.{bodyOf, numbersOf, rec, recOf, goodRecord};
 ghost use Rattle.tape.specs.Tape.{mayCome, roomOf, rowNext, projectNext, afterOf, takeOf, stepOf, readingOf};
 
 fn may_come(st: State, kind: u8) -> bool
@@ -54,71 +56,43 @@ fn room(st: State, kind: u8) -> u32
     0
 }
 
-fn row_at(s: &[u8], at: usize) -> bool
-    requires { ⌜ at + 7 ≤ length (now s) ⌝ }
-    ensures { λ r. ⌜ r ≡ goodOf 5 (numbersOf 5 (drop at (now (s .entry)))) ⌝ }
-{
-    ranges::row_good(digits::two_at(s, at + 1), digits::four_at(s, at + 3))
-}
-
-fn project_at(s: &[u8], at: usize) -> bool
-    requires { ⌜ at + 5 ≤ length (now s) ⌝ }
-    ensures { λ r. ⌜ r ≡ goodOf 1 (numbersOf 1 (drop at (now (s .entry)))) ⌝ }
-{
-    ranges::project_good(digits::two_at(s, at + 1), digits::signed_at(s, at + 3))
-}
-
-fn start_at(s: &[u8], at: usize) -> bool
-    requires { ⌜ at + 13 ≤ length (now s) ⌝ }
-    ensures { λ r. ⌜ r ≡ goodOf 2 (numbersOf 2 (drop at (now (s .entry)))) ⌝ }
-{
-    ranges::start_good(
-        digits::four_at(s, at + 1),
-        digits::four_at(s, at + 5),
-        digits::four_at(s, at + 9),
-    )
-}
-
-fn leg_at(s: &[u8], at: usize) -> bool
-    requires { ⌜ at + 9 ≤ length (now s) ⌝ }
-    ensures { λ r. ⌜ r ≡ goodOf 3 (numbersOf 3 (drop at (now (s .entry)))) ⌝ }
-{
-    ranges::leg_good(digits::four_at(s, at + 1), digits::four_at(s, at + 5))
-}
-
-fn close_at(s: &[u8], at: usize) -> bool
-    requires { ⌜ at + 17 ≤ length (now s) ⌝ }
-    ensures { λ r. ⌜ r ≡ goodOf 4 (numbersOf 4 (drop at (now (s .entry)))) ⌝ }
-{
-    ranges::close_good(
-        digits::four_at(s, at + 1),
-        digits::four_at(s, at + 5),
-        digits::four_at(s, at + 9),
-        digits::four_at(s, at + 13),
-    )
-}
-
-// Whether the fields of a whole record are in range.
-fn fields_good(s: &[u8], at: usize, kind: u8) -> bool
+// The record of a kind at a place, from the tape's own bytes.
+pub fn record_at(s: &[u8], at: usize, kind: u8) -> Record
     requires { ⌜ at + (1 + bodyOf kind) ≤ length (now s) ⌝ }
-    ensures { λ r. ⌜ r ≡ goodOf kind (numbersOf kind (drop at (now (s .entry)))) ⌝ }
+    requires { ⌜ (1 ≤ kind) × (kind ≤ 5) ⌝ }
+    ensures { λ r. ⌜ recOf r ≡ rec kind (numbersOf kind (drop at (now (s .entry)))) ⌝ }
 {
     if kind == 5 {
-        return row_at(s, at);
+        return Record::Row {
+            minute: digits::two_at(s, at + 1),
+            factor: digits::four_at(s, at + 3),
+        };
     }
     if kind == 1 {
-        return project_at(s, at);
+        return Record::Project {
+            latitude: digits::two_at(s, at + 1),
+            elevation: digits::signed_at(s, at + 3),
+        };
     }
     if kind == 2 {
-        return start_at(s, at);
+        return Record::Start {
+            northing: digits::four_at(s, at + 1),
+            easting: digits::four_at(s, at + 5),
+            mark: digits::four_at(s, at + 9),
+        };
     }
     if kind == 3 {
-        return leg_at(s, at);
+        return Record::Leg {
+            angle: digits::four_at(s, at + 1),
+            distance: digits::four_at(s, at + 5),
+        };
     }
-    if kind == 4 {
-        return close_at(s, at);
+    Record::Close {
+        angle: digits::four_at(s, at + 1),
+        northing: digits::four_at(s, at + 5),
+        easting: digits::four_at(s, at + 9),
+        mark: digits::four_at(s, at + 13),
     }
-    true
 }
 
 fn row_next(st: State, minute: u32) -> Step
@@ -158,43 +132,37 @@ fn project_next(st: State, latitude: u32) -> Step
 }
 
 // What follows a record that is whole and in range.
-fn after(s: &[u8], at: usize, st: State, kind: u8) -> Step
-    requires { ⌜ (at + (1 + bodyOf kind) ≤ length (now s)) × (roomOf st kind ≡ 0) ⌝ }
-    ensures { λ r. ⌜ r ≡ afterOf st kind (numbersOf kind (drop at (now (s .entry)))) ⌝ }
+fn after(st: State, given: Record) -> Step
+    requires { ⌜ (roomOf st (recOf given .kind) ≡ 0) × (goodRecord given ≡ true) ⌝ }
+    ensures { λ r. ⌜ r ≡ afterOf st (recOf given .kind) (recOf given .values) ⌝ }
 {
-    if kind == 5 {
-        return row_next(st, digits::two_at(s, at + 1));
-    }
-    if kind == 1 {
-        return project_next(st, digits::two_at(s, at + 1));
-    }
-    if kind == 2 {
-        return Step::Next(State {
+    match given {
+        Record::Row { minute, .. } => row_next(st, minute),
+        Record::Project { latitude, .. } => project_next(st, latitude),
+        Record::Start { .. } => Step::Next(State {
             phase: 2,
             rows: st.rows,
             next: st.next,
             legs: st.legs,
-        });
-    }
-    if kind == 3 {
-        return Step::Next(State {
+        }),
+        Record::Leg { .. } => Step::Next(State {
             phase: 2,
             rows: st.rows,
             next: st.next,
             legs: st.legs + 1,
-        });
+        }),
+        Record::Close { .. } => Step::Next(State {
+            phase: 3,
+            rows: st.rows,
+            next: st.next,
+            legs: st.legs,
+        }),
     }
-    Step::Next(State {
-        phase: 3,
-        rows: st.rows,
-        next: st.next,
-        legs: st.legs,
-    })
 }
 
 // A record whose kind may come: its room, then its body, its fields, and what follows.
 fn take_body(s: &[u8], at: usize, st: State, kind: u8) -> Step
-    requires { ⌜ at < length (now s) ⌝ }
+    requires { ⌜ (at < length (now s)) × (mayCome st kind ≡ true) ⌝ }
     ensures { λ r. ⌜ r ≡ takeOf st kind (ltb (bodyOf kind) (length (drop at (now (s .entry))))) (numbersOf kind (drop at (now (s .entry)))) ⌝ }
 {
     let refusal = room(st, kind);
@@ -204,8 +172,9 @@ fn take_body(s: &[u8], at: usize, st: State, kind: u8) -> Step
     if s.len() - at <= ranges::body_len(kind) {
         return Step::Stop(2);
     }
-    if fields_good(s, at, kind) {
-        return after(s, at, st, kind);
+    let given = record_at(s, at, kind);
+    if ranges::good(given) {
+        return after(st, given);
     }
     Step::Stop(4)
 }

@@ -1,9 +1,10 @@
 // The table of kinds in code: the length of each kind's body, and the ranges of its fields. Reader and writer share them.
+use crate::Record;
 use whole::Whole;
 ghost use mathlib.Core.Path.{_≡_};
 ghost use mathlib.Core.List.{[], _∷_};
 ghost use lib.IntN.{pos};
-ghost use Rattle.tape.specs.Record.{bodyOf, goodOf};
+ghost use Rattle.tape.specs.Record.{bodyOf, goodOf, recOf, goodRecord};
 
 pub fn body_len(kind: u8) -> usize
     ensures { λ r. ⌜ r ≡ bodyOf kind ⌝ }
@@ -18,7 +19,7 @@ pub fn body_len(kind: u8) -> usize
     }
 }
 
-pub fn row_good(minute: u32, factor: u32) -> bool
+fn row_good(minute: u32, factor: u32) -> bool
     ensures { λ r. ⌜ r ≡ goodOf 5 (pos minute ∷ pos factor ∷ []) ⌝ }
 {
     if 5400 < minute {
@@ -30,7 +31,7 @@ pub fn row_good(minute: u32, factor: u32) -> bool
     factor <= 10010000
 }
 
-pub fn project_good(latitude: u32, elevation: Whole) -> bool
+fn project_good(latitude: u32, elevation: Whole) -> bool
     ensures { λ r. ⌜ r ≡ goodOf 1 (pos latitude ∷ elevation .v ∷ []) ⌝ }
 {
     if 5400 < latitude {
@@ -42,7 +43,7 @@ pub fn project_good(latitude: u32, elevation: Whole) -> bool
     elevation.size() <= 20000
 }
 
-pub fn start_good(northing: u32, easting: u32, mark: u32) -> bool
+fn start_good(northing: u32, easting: u32, mark: u32) -> bool
     ensures { λ r. ⌜ r ≡ goodOf 2 (pos northing ∷ pos easting ∷ pos mark ∷ []) ⌝ }
 {
     if 1000000000 < northing {
@@ -54,7 +55,7 @@ pub fn start_good(northing: u32, easting: u32, mark: u32) -> bool
     mark <= 12959999
 }
 
-pub fn leg_good(angle: u32, distance: u32) -> bool
+fn leg_good(angle: u32, distance: u32) -> bool
     ensures { λ r. ⌜ r ≡ goodOf 3 (pos angle ∷ pos distance ∷ []) ⌝ }
 {
     if 12959999 < angle {
@@ -66,11 +67,48 @@ pub fn leg_good(angle: u32, distance: u32) -> bool
     distance <= 20000000
 }
 
-pub fn close_good(angle: u32, northing: u32, easting: u32, mark: u32) -> bool
+fn close_good(angle: u32, northing: u32, easting: u32, mark: u32) -> bool
     ensures { λ r. ⌜ r ≡ goodOf 4 (pos angle ∷ pos northing ∷ pos easting ∷ pos mark ∷ []) ⌝ }
 {
     if 12959999 < angle {
         return false;
     }
     start_good(northing, easting, mark)
+}
+
+// ---- of a record
+pub fn kind(given: Record) -> u8
+    ensures { λ r. ⌜ r ≡ recOf given .kind ⌝ }
+{
+    match given {
+        Record::Row { .. } => 5,
+        Record::Project { .. } => 1,
+        Record::Start { .. } => 2,
+        Record::Leg { .. } => 3,
+        Record::Close { .. } => 4,
+    }
+}
+
+pub fn good(given: Record) -> bool
+    ensures { λ r. ⌜ r ≡ goodRecord given ⌝ }
+{
+    match given {
+        Record::Row { minute, factor } => row_good(minute, factor),
+        Record::Project {
+            latitude,
+            elevation,
+        } => project_good(latitude, elevation),
+        Record::Start {
+            northing,
+            easting,
+            mark,
+        } => start_good(northing, easting, mark),
+        Record::Leg { angle, distance } => leg_good(angle, distance),
+        Record::Close {
+            angle,
+            northing,
+            easting,
+            mark,
+        } => close_good(angle, northing, easting, mark),
+    }
 }

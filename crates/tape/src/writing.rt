@@ -1,16 +1,15 @@
-// The writer of one record of each kind. Each tries its room, then its fields, and lends the rest of the bytes on to the one that stores them.
-use crate::Written;
-use crate::ranges;
+// The stores of a record at the front of the bytes lent on, a function for each kind.
+use crate::Record;
 use whole::Whole;
 ghost use mathlib.Core.Path.{_≡_};
+ghost use mathlib.Core.Bool.{true};
 ghost use mathlib.Core.List.{_++_, [], _∷_};
 ghost use Prim.Native.Nat.{_+_, _≤_};
 ghost use lib.ListN.{length, drop, set};
 ghost use lib.Seq.{sets};
 ghost use lib.IntN.{pos, natAbs};
 ghost use Rattle.tape.specs.Bytes.{two, four, bytes, written};
-ghost use Rattle.tape.specs.Record.{goodOf, bytesOf};
-ghost use Rattle.tape.specs.Write.{Wrote};
+ghost use Rattle.tape.specs.Record.{bytesOf, goodRecord, bytesOfRecord};
 
 // ---- a kind, and numbers, the high byte first
 fn put_kind(out: &mut [u8], kind: u8)
@@ -101,120 +100,27 @@ fn put_close(out: &mut [u8], angle: u32, northing: u32, easting: u32, mark: u32)
     put_four(out, 13, mark);
 }
 
-// ---- a record at any place of any bytes
-pub fn write_row(out: &mut [u8], place: usize, minute: u32, factor: u32) -> Written
-    ensures { λ r. ⌜ Wrote (now (out .entry)) (now (out .exit)) place (goodOf 5 (pos minute ∷ pos factor ∷ [])) (bytesOf 5 (pos minute ∷ pos factor ∷ [])) r ⌝ }
+pub fn put(out: &mut [u8], given: Record)
+    requires { ⌜ (length (bytesOfRecord given) ≤ length (now out)) × (goodRecord given ≡ true) ⌝ }
+    ensures { λ r. ⌜ now (out .exit) ≡ bytesOfRecord given ++ drop (length (bytesOfRecord given)) (now (out .entry)) ⌝ }
 {
-    if out.len() < place {
-        return Written::Refused {
-            number: 1,
-            place: 0,
-        };
+    match given {
+        Record::Row { minute, factor } => put_row(out, minute, factor),
+        Record::Project {
+            latitude,
+            elevation,
+        } => put_project(out, latitude, elevation),
+        Record::Start {
+            northing,
+            easting,
+            mark,
+        } => put_start(out, northing, easting, mark),
+        Record::Leg { angle, distance } => put_leg(out, angle, distance),
+        Record::Close {
+            angle,
+            northing,
+            easting,
+            mark,
+        } => put_close(out, angle, northing, easting, mark),
     }
-    if out.len() - place < 7 {
-        return Written::Refused {
-            number: 1,
-            place: 0,
-        };
-    }
-    if ranges::row_good(minute, factor) {
-        put_row(&mut out[place..], minute, factor);
-        return Written::Until(place + 7);
-    }
-    Written::Refused { number: 4, place }
-}
-
-pub fn write_project(out: &mut [u8], place: usize, latitude: u32, elevation: Whole) -> Written
-    ensures { λ r. ⌜ Wrote (now (out .entry)) (now (out .exit)) place (goodOf 1 (pos latitude ∷ elevation .v ∷ [])) (bytesOf 1 (pos latitude ∷ elevation .v ∷ [])) r ⌝ }
-{
-    if out.len() < place {
-        return Written::Refused {
-            number: 1,
-            place: 0,
-        };
-    }
-    if out.len() - place < 5 {
-        return Written::Refused {
-            number: 1,
-            place: 0,
-        };
-    }
-    if ranges::project_good(latitude, elevation) {
-        put_project(&mut out[place..], latitude, elevation);
-        return Written::Until(place + 5);
-    }
-    Written::Refused { number: 4, place }
-}
-
-pub fn write_start(out: &mut [u8], place: usize, northing: u32, easting: u32, mark: u32) -> Written
-    ensures { λ r. ⌜ Wrote (now (out .entry)) (now (out .exit)) place (goodOf 2 (pos northing ∷ pos easting ∷ pos mark ∷ [])) (bytesOf 2 (pos northing ∷ pos easting ∷ pos mark ∷ [])) r ⌝ }
-{
-    if out.len() < place {
-        return Written::Refused {
-            number: 1,
-            place: 0,
-        };
-    }
-    if out.len() - place < 13 {
-        return Written::Refused {
-            number: 1,
-            place: 0,
-        };
-    }
-    if ranges::start_good(northing, easting, mark) {
-        put_start(&mut out[place..], northing, easting, mark);
-        return Written::Until(place + 13);
-    }
-    Written::Refused { number: 4, place }
-}
-
-pub fn write_leg(out: &mut [u8], place: usize, angle: u32, distance: u32) -> Written
-    ensures { λ r. ⌜ Wrote (now (out .entry)) (now (out .exit)) place (goodOf 3 (pos angle ∷ pos distance ∷ [])) (bytesOf 3 (pos angle ∷ pos distance ∷ [])) r ⌝ }
-{
-    if out.len() < place {
-        return Written::Refused {
-            number: 1,
-            place: 0,
-        };
-    }
-    if out.len() - place < 9 {
-        return Written::Refused {
-            number: 1,
-            place: 0,
-        };
-    }
-    if ranges::leg_good(angle, distance) {
-        put_leg(&mut out[place..], angle, distance);
-        return Written::Until(place + 9);
-    }
-    Written::Refused { number: 4, place }
-}
-
-pub fn write_close(
-    out: &mut [u8],
-    place: usize,
-    angle: u32,
-    northing: u32,
-    easting: u32,
-    mark: u32,
-) -> Written
-    ensures { λ r. ⌜ Wrote (now (out .entry)) (now (out .exit)) place (goodOf 4 (pos angle ∷ pos northing ∷ pos easting ∷ pos mark ∷ [])) (bytesOf 4 (pos angle ∷ pos northing ∷ pos easting ∷ pos mark ∷ [])) r ⌝ }
-{
-    if out.len() < place {
-        return Written::Refused {
-            number: 1,
-            place: 0,
-        };
-    }
-    if out.len() - place < 17 {
-        return Written::Refused {
-            number: 1,
-            place: 0,
-        };
-    }
-    if ranges::close_good(angle, northing, easting, mark) {
-        put_close(&mut out[place..], angle, northing, easting, mark);
-        return Written::Until(place + 17);
-    }
-    Written::Refused { number: 4, place }
 }

@@ -1,66 +1,69 @@
--- `after` meets its contract: what follows is by the kind; a row and a project go by their minute, which is read again.
+-- `after` meets its contract: what follows is by the case; a row and a project go by their minute.
 use borrow.Author.Needs.{needs}
-use Rattle.tape.specs.Record.{bodyOf, fieldsOf, table}
+use Rattle.tape.specs.Record.{recOf}
 use Rattle.tape.specs.Tape.{afterOf}
-use Rattle.tape.proofs.Branch.{branch}
-use Rattle.tape.proofs.Bodies.{minute-whole, row-room, leg-fits, after-row, after-project}
+use Rattle.tape.proofs.Bodies.{found-after, row-room, row-minute, leg-fits}
 use Rattle.tape.proofs.order.after.Statement.{statement}
 use Rattle.tape.proofs.order.after.Tie as tie
 
-add-two-at : tie.Need-add-two-at
-add-two-at c = search needs
-
-two-at-requires : tie.Need-two-at-requires
-unfolding bodyOf fieldsOf table
-two-at-requires c κs = search minute-whole
+enum-known-given : tie.Need-enum-known-given
+enum-known-given c = search needs
 
 row-next-requires : tie.Need-row-next-requires
-row-next-requires c κs = (search row-room, search needs)
+row-next-requires c κs = (search row-room, search row-minute)
 
-returns : tie.Need-returns
-returns c = search after-row
-
-add-two-at-2 : tie.Need-add-two-at-2
-add-two-at-2 c = search needs
-
-two-at-requires-2 : tie.Need-two-at-requires-2
-unfolding bodyOf fieldsOf table
-two-at-requires-2 c κs = search minute-whole
+enum-known-given-2 : tie.Need-enum-known-given-2
+enum-known-given-2 c = search needs
 
 project-next-requires : tie.Need-project-next-requires
 project-next-requires c κs = search needs
 
+enum-told : tie.Need-enum-told
+enum-told c = search needs
+
+enum-told-2 : tie.Need-enum-told-2
+enum-told-2 c = search needs
+
+add-t7 : tie.Need-add-t7
+add-t7 c = search leg-fits
+
+enum-told-3 : tie.Need-enum-told-3
+enum-told-3 c = search needs
+
+returns : tie.Need-returns
+unfolding recOf afterOf
+returns c = search found-after
+
 returns-2 : tie.Need-returns-2
-returns-2 c = search after-project
+unfolding recOf afterOf
+returns-2 c = search found-after
 
 returns-3 : tie.Need-returns-3
-unfolding afterOf
-returns-3 c = search branch depth 20
-
-add-t11 : tie.Need-add-t11
-add-t11 c = search leg-fits
+unfolding recOf afterOf
+returns-3 c = search found-after
 
 returns-4 : tie.Need-returns-4
-unfolding afterOf
-returns-4 c = search branch depth 20
+unfolding recOf afterOf
+returns-4 c = search found-after
 
 returns-5 : tie.Need-returns-5
-unfolding afterOf
-returns-5 c = search branch depth 20
+unfolding recOf afterOf
+returns-5 c = search found-after
 
 pub after-spec : {M : Type 1} → statement M
 after-spec =
     tie.close
     (tie.spec
-    add-two-at
-    two-at-requires
+    enum-known-given
     row-next-requires
-    returns
-    add-two-at-2
-    two-at-requires-2
+    enum-known-given-2
     project-next-requires
+    enum-told
+    enum-told-2
+    add-t7
+    enum-told-3
+    returns
     returns-2
     returns-3
-    add-t11
     returns-4
     returns-5)

@@ -1,7 +1,7 @@
 -- `take_record` meets its contract: the kind is tested first.
 use borrow.Author.Needs.{needs}
 use Rattle.tape.specs.Tape.{stepOf, judge}
-use Rattle.tape.proofs.Branch.{told}
+use Rattle.tape.proofs.Branch.{told, told-true}
 use Rattle.tape.proofs.Numbers.{head-drop}
 use Rattle.tape.proofs.order.take_record.Statement.{statement}
 use Rattle.tape.proofs.order.take_record.Tie as tie
@@ -13,7 +13,7 @@ may-come-requires : tie.Need-may-come-requires
 may-come-requires c κs = search needs
 
 take-body-requires : tie.Need-take-body-requires
-take-body-requires c κs = search needs
+take-body-requires c κs = (search needs, search told-true)
 
 returns : tie.Need-returns
 unfolding stepOf judge
