@@ -3,6 +3,7 @@
 use mathlib.Core.Path.{_≡_, refl, sym, _∙_, ap}
 use mathlib.Core.Bool.{Bool, true, false, _&&_}
 use Prim.Native.Nat.{ℕ, _≤_, _<_}
+use native.Mathlib.Omega.{arith}
 use borrow.Author.Tests.{le-leb, lt-leb, lt-ltb, le-ltb}
 use lib.Dec.{leb}
 use lib.IntN.{ℤ, pos, natAbs}
@@ -45,6 +46,16 @@ refuses-verdict good z e = rw e
 -- ---- for a caller: the value of a step whose input is in range
 pub value-given : (t : Told) (good : Bool) (z : ℤ) → t ≡ inRange good z → good ≡ true → t .value ≡ z
 value-given t good z e h = ap (λ (u : Told). u .value) e ∙ ap (λ (b : Bool). (inRange b z) .value) h
+
+-- of a test, whether it passes
+pub verdict-given : (t : Told) (good r ok : Bool) → t ≡ inRange good (passes ok) → good ≡ true → passes r ≡ t .value → r ≡ ok
+verdict-given t good r ok e h f = same r ok (f ∙ value-given t good (passes ok) e h)
+  where
+    same : (x y : Bool) → passes x ≡ passes y → x ≡ y
+    same true true i = refl
+    same false false i = refl
+    same true false i = absurd (omega (arith, ap natAbs i))
+    same false true i = absurd (omega (arith, ap natAbs i))
 
 -- ---- the range, from the code's tests
 pub both : (a b : Bool) → a ≡ true → b ≡ true → (a && b) ≡ true

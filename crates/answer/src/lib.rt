@@ -2,7 +2,7 @@
 use whole::Whole;
 ghost use mathlib.Core.Path.{_≡_};
 ghost use lib.IntN.{pos};
-ghost use Rattle.answer.specs.Told.{told, toldCount};
+ghost use Rattle.answer.specs.Told.{told, toldCount, toldVerdict, passes};
 
 // Of an arithmetic step: an amount with a sign, or the input was out of the range stated with the step.
 pub enum Amount {
@@ -42,6 +42,18 @@ impl Count {
         match self {
             Count::Is(n) => n,
             Count::OutOfRange => 0,
+        }
+    }
+}
+
+impl Verdict {
+    pub fn value(self) -> bool
+        ensures { λ r. ⌜ passes r ≡ toldVerdict self .value ⌝ }
+    {
+        match self {
+            Verdict::Passes => true,
+            Verdict::Fails => false,
+            Verdict::OutOfRange => false,
         }
     }
 }

@@ -1,0 +1,135 @@
+-- The run along the legs: a step whose input is in range gives its value, each value is small, and so the sums at a station are the preliminary
+-- places and the distance run there.
+use Prim.Native.Nat.{ℕ, zero, suc, _+_, _*_, _^_, _≤_, _<_}
+use native.Mathlib.Omega.{arith}
+use native.Mathlib.Numerals.{add-one}
+use native.Mathlib.Decide.{ℕ-discrete}
+use native.Mathlib.Nat.{mod-lt}
+use mathlib.Core.Path.{_≡_, _∙_, ap, subst}
+use mathlib.Core.List.{List, [], _∷_}
+use borrow.Author.Tests.{le-leb, lt-ltb}
+use lib.ListN.{length, getD, set, length-set}
+use lib.Seq.{getD-set-same, getD-set-other}
+use lib.IntN.{ℤ, pos, natAbs, negℤ, _+ℤ_, _-ℤ_, _*ℤ_}
+use Rattle.whole.proofs.Laws.{abs-neg, abs-mul, triangle}
+use Rattle.whole.proofs.Ring.{ring, exps}
+use Rattle.whole.proofs.Rounding.{half-up-most, nearest-most}
+use Rattle.answer.specs.declared.Amount.{Amount}
+use Rattle.answer.specs.declared.Count.{Count}
+use Rattle.answer.specs.Told.{told, toldCount}
+use Rattle.answer.proofs.Telling.{value-given, both, inside-yes}
+use Rattle.sines.specs.Quadrant.{circle, ahead}
+use Rattle.sines.specs.Sine.{Table}
+use Rattle.sines.proofs.Own.{sine-size}
+use Rattle.steps.specs.Course.{Axis, north, east, sineAlong, move, course, courseStepIn}
+use Rattle.steps.specs.Distance.{grid, gridStep}
+use Rattle.steps.proofs.Laws.{product-most}
+use Rattle.steps.proofs.Moving.{course-own}
+use Rattle.desk.specs.Line.{run, preliminary}
+use Rattle.desk.specs.Traverse.{along, longOf, azimuthOf, line}
+use Rattle.desk.specs.Inside.{LegSound, Sound, Small, Advanced, Stands, none, Ran}
+use Rattle.desk.specs.declared.Balanced.{Balanced}
+use Rattle.desk.specs.declared.Sums.{Sums}
+
+-- ---- the grid distance of a leg
+module _ (distance factor : ℕ) (near : distance ≤ 20000000) (most : factor ≤ 10020010) where
+  grid-most : grid distance factor ≤ 20040020
+  unfolding grid
+  grid-most = half-up-most (distance * factor) 10000000 20040020 (omega arith) (omega (arith, product-most distance factor 20000000 10020010 near most))
+
+  module _ (r : Count) (n : ℕ) (far : 1000 ≤ distance) (least : 9980000 ≤ factor) (e : toldCount r ≡ gridStep distance factor) (f : pos n ≡ toldCount r .value) where
+    pub grid-is : n ≡ grid distance factor
+    grid-is = ap natAbs (f ∙ value-given (toldCount r) _ _ e (both _ _ (inside-yes 1000 20000000 distance far near) (inside-yes 9980000 10020010 factor least most)))
+
+    pub grid-small : n ≤ 20040020
+    grid-small = rw grid-is grid-most
+
+-- ---- the latitude or departure of a leg
+sine-most : (axis : Axis) (azimuth : ℕ) → azimuth < circle → natAbs (sineAlong axis azimuth) ≤ 1000000000
+unfolding sineAlong
+sine-most north azimuth h = sine-size (ahead azimuth) (mod-lt (azimuth + 3240000) (omega arith))
+sine-most east azimuth h = sine-size azimuth h
+
+module _ (axis : Axis) (distance azimuth : ℕ) (near : distance ≤ 20100000) (turned : azimuth < circle) where
+  course-most : natAbs (course axis distance azimuth) ≤ 2010000
+  unfolding move
+  course-most =
+      let s = sineAlong axis azimuth in
+      nearest-most (negℤ (s *ℤ pos distance)) 10000000000 2010000 (omega arith)
+      (rw (abs-neg (s *ℤ pos distance), abs-mul s (pos distance)) (omega (arith, product-most (natAbs s) distance 1000000000 20100000 (sine-most axis azimuth turned) near)))
+
+  module _ (table : List ℕ) (r : Amount) (v : ℤ) (right : Table table) (e : told r ≡ courseStepIn table axis distance azimuth) (f : v ≡ told r .value) where
+    pub course-is : v ≡ course axis distance azimuth
+    course-is = f ∙ value-given (told r) _ _ (course-own table axis distance azimuth r right e) (both _ _ (le-leb distance 20100000 near) (lt-ltb azimuth circle turned))
+
+    pub course-small : natAbs v ≤ 2010000
+    course-small = rw course-is course-most
+
+-- ---- a balanced traverse whose fields are in range
+module _ (b : Balanced) (sound : Sound b) where
+  pub leg-sound : (k : ℕ) → k < b .legs → LegSound (b .factor) (getD (b .distances) k 0) (getD (b .azimuths) k 0)
+  leg-sound k h = sound .leg k h
+
+  -- ---- how far a station may stand from the start, and how much may be run
+  pub drift : (axis : Axis) (k : ℕ) → k ≤ b .legs → natAbs (preliminary (line axis b) k -ℤ pos (along axis (b .from))) ≤ 2010000 * k
+  unfolding preliminary
+  drift axis zero h = let f = pos (along axis (b .from)) in rw (ring (f ∷ []) {x = f -ℤ f} {y = pos 0} (λ v. search exps) tt) (omega arith)
+  drift axis (suc k) h =
+      let p = preliminary (line axis b) k in
+      let f = pos (along axis (b .from)) in
+      let leg = sound .leg k (omega arith) in
+      let m = course axis (longOf b k) (azimuthOf b k) in
+      let near = grid-most (getD (b .distances) k 0) (b .factor) (leg .near) (leg .most) in
+      let e : p +ℤ m -ℤ f ≡ p -ℤ f +ℤ m = ring (p ∷ m ∷ f ∷ []) (λ v. search exps) tt in
+      rw e (omega (arith, triangle (p -ℤ f) m, drift axis k (omega arith), course-most axis (longOf b k) (azimuthOf b k) (omega (arith, near)) (leg .turned)))
+
+  pub run-most : (k : ℕ) → k ≤ b .legs → run (longOf b) k ≤ 20040020 * k
+  unfolding run
+  run-most zero h = omega arith
+  run-most (suc k) h =
+      let leg = sound .leg k (omega arith) in
+      omega (arith, run-most k (omega arith), grid-most (getD (b .distances) k 0) (b .factor) (leg .near) (leg .most))
+
+  place-small : (axis : Axis) (k : ℕ) (z : ℤ) → z ≡ preliminary (line axis b) k → k ≤ b .legs → natAbs z < 2 ^ 40
+  place-small axis k z e h =
+      let p = preliminary (line axis b) k in
+      let f = pos (along axis (b .from)) in
+      let g : p ≡ p -ℤ f +ℤ f = ring (p ∷ f ∷ []) (λ v. search exps) tt in
+      rw (e, g) (omega (arith, triangle (p -ℤ f) f, drift axis k h, sound .from axis, sound .few))
+
+  pub stands-small : (k : ℕ) (s : Sums) → k ≤ b .legs → Stands b k s → Small s
+  stands-small k s h w =
+      record {
+        north = place-small north k _ (w .north) h;
+        east = place-small east k _ (w .east) h;
+        run = rw (w .run) (omega (arith, run-most k h, sound .few));
+      }
+
+  -- ---- the sums, a leg at a time
+  pub stands-first : (s : Sums) → s .north .v ≡ pos (b .from .north) → s .east .v ≡ pos (b .from .east) → s .run ≡ 0 → Stands b 0 s
+  unfolding run preliminary
+  stands-first s e f g = record { north = e; east = f; run = g }
+
+  pub stands-next : (k : ℕ) (s r : Sums) → Stands b k s → Advanced s (b .factor) (getD (b .distances) k 0) (getD (b .azimuths) k 0) r → Stands b (k + 1) r
+  unfolding run preliminary
+  stands-next k s r h n =
+      rw (add-one k) (record { north = rw (← h .north) (n .north); east = rw (← h .east) (n .east); run = rw (← h .run) (n .run) })
+
+  -- every station up to the one reached
+  pub ran-first : (l : List Sums) → length l ≡ 65 → Stands b 0 (getD l 0 none) → Ran b 0 l
+  ran-first l r w = record { room = r; at = λ k h. let z : k ≡ 0 = omega arith in rw z w }
+
+  pub ran-next : (k : ℕ) (s : Sums) (l : List Sums) → Ran b k l → Stands b (k + 1) s → k < b .legs → Ran b (k + 1) (set l (k + 1) s)
+  ran-next k s l h w low =
+      record {
+        room = rw (length-set l (k + 1) s) (h .room);
+        at =
+            λ j i.
+            elim (ℕ-discrete j (k + 1)) [
+              | yes e ↦ rw (e, getD-set-same l (k + 1) s none (omega (arith, h .room, sound .few))) w
+              | no e ↦ rw (getD-set-other l (k + 1) j s none e) (h .at j (omega arith))
+            ];
+      }
+
+  pub ran-last : (k : ℕ) (l : List Sums) → k ≤ b .legs → b .legs ≤ k → Ran b k l → Ran b (b .legs) l
+  ran-last k l h i w = let e : k ≡ b .legs = omega arith in subst (λ (j : ℕ). Ran b j l) e w

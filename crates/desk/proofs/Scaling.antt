@@ -1,0 +1,65 @@
+-- The combined factor: over the elevations of the tape the sea level factor stays within a thousandth of 1, and so does the row's, so their sum less
+-- 1 is within the range that the distance step takes.
+use Prim.Native.Nat.{ℕ, suc, _+_, _-_, _*_, _≤_, _<_}
+use native.Mathlib.Omega.{arith}
+use native.Mathlib.Decide.{decLe}
+use native.Mathlib.Nat.{div-lt-iff-lt-mul}
+use mathlib.Core.Path.{_≡_, _∙_, ap}
+use mathlib.Core.Bool.{true, _&&_, and-eq-true-iff}
+use borrow.Author.Tests.{leb-true}
+use lib.Dec.{leb}
+use lib.IntN.{ℤ, pos, negsuc, negℤ, natAbs, _+ℤ_}
+use lib.Signed.{leZ}
+use Rattle.whole.specs.Nearest.{halfUp}
+use Rattle.whole.proofs.Diff.{ints, same}
+use Rattle.whole.proofs.Rounding.{half-up-most}
+use Rattle.answer.specs.declared.Count.{Count}
+use Rattle.answer.specs.Told.{toldCount}
+use Rattle.answer.proofs.Telling.{value-given, both, inside-yes}
+use Rattle.steps.specs.Distance.{seaLevel, combine, seaLevelStep, combineStep}
+
+-- a divisor of 20,905,000 to 20,926,000 feet
+quotient-range : (d : ℕ) → 20905000 ≤ d → d ≤ 20926000 → (9990000 ≤ halfUp 209060000000000 d) × (halfUp 209060000000000 d ≤ 10010000)
+quotient-range d low high = (least, half-up-most 209060000000000 d 10010000 (omega arith) (omega arith))
+  where
+    least : 9990000 ≤ halfUp 209060000000000 d
+    least =
+        elim (decLe 9990000 (halfUp 209060000000000 d)) [
+          | yes i ↦ i
+          | no i ↦ absurd (omega (arith, div-lt-iff-lt-mul {k = 2 * d} {x = 2 * 209060000000000 + d} {y = 9990000} (omega arith) .0 (omega arith)))
+        ]
+
+sea-range : (z : ℤ) → (leZ (negℤ (pos 1000)) z && leZ z (pos 20000)) ≡ true → (9990000 ≤ seaLevel z) × (seaLevel z ≤ 10010000)
+unfolding seaLevel
+sea-range (pos n) h = let i = leb-true n 20000 h in quotient-range (20906000 + n) (omega arith) (omega arith)
+sea-range (negsuc n) h =
+    let i = leb-true n 999 (and-eq-true-iff (leb n 999) true .0 h .0) in
+    let e : pos 20906000 +ℤ negsuc n ≡ pos (20906000 - suc n) = same (search ints) (omega arith) in
+    rw e (quotient-range (20906000 - suc n) (omega arith) (omega arith))
+
+-- ---- the steps, whose input is in range
+module _ (r : Count) (n : ℕ) (z : ℤ) (good : (leZ (negℤ (pos 1000)) z && leZ z (pos 20000)) ≡ true) (t : toldCount r ≡ seaLevelStep z) (f : pos n ≡ toldCount r .value) where
+  pub sea-is : n ≡ seaLevel z
+  sea-is = ap natAbs (f ∙ value-given (toldCount r) _ _ t good)
+
+  pub sea-low : 9990000 ≤ n
+  sea-low = rw sea-is (sea-range z good .0)
+
+  pub sea-high : n ≤ 10010000
+  sea-high = rw sea-is (sea-range z good .1)
+
+module _ (r : Count) (n sea scale : ℕ) (low : 9990000 ≤ sea) (high : sea ≤ 10010000) (least : 9990000 ≤ scale) (most : scale ≤ 10010000)
+    (t : toldCount r ≡ combineStep sea scale) (f : pos n ≡ toldCount r .value) where
+  combined-sum : n ≡ combine sea scale
+  combined-sum = ap natAbs (f ∙ value-given (toldCount r) _ _ t (both _ _ (inside-yes 9990000 10010000 sea low high) (inside-yes 9990000 10010000 scale least most)))
+
+  pub combined-is : (z : ℤ) → sea ≡ seaLevel z → n ≡ combine (seaLevel z) scale
+  combined-is z e = rw (← e) combined-sum
+
+  pub combined-low : 9980000 ≤ n
+  unfolding combine
+  combined-low = omega (arith, combined-sum)
+
+  pub combined-high : n < 10020011
+  unfolding combine
+  combined-high = omega (arith, combined-sum)

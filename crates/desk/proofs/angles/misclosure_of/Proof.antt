@@ -1,0 +1,20 @@
+-- `misclosure_of` meets its contract: the step gives its value, since the carried azimuth and the given one are within the circle.
+use borrow.Author.Needs.{needs}
+use Rattle.desk.proofs.Balancing.{misclosure-value, misclosure-small}
+use Rattle.desk.proofs.angles.misclosure_of.Statement.{statement}
+use Rattle.desk.proofs.angles.misclosure_of.Tie as tie
+
+carry-requires : tie.Need-carry-requires
+carry-requires c κs = search needs
+
+misclosure-requires : tie.Need-misclosure-requires
+misclosure-requires c κs = search needs
+
+value-requires : tie.Need-value-requires
+value-requires c κs = search needs
+
+returns : tie.Need-returns
+returns c = (search misclosure-value, search misclosure-small)
+
+pub misclosure-of-spec : {M : Type 1} → statement M
+misclosure-of-spec = tie.close (tie.spec carry-requires misclosure-requires value-requires returns)

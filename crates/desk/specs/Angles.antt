@@ -1,0 +1,51 @@
+-- Paper 01, "Azimuths and legs", over the fields of a tape: the azimuths carried along the legs, the misclosure W, and the balanced azimuths. Legs are
+-- numbered by the station that they leave, from 0; the angle at the last station is the closing one.
+use Prim.Native.Nat.{ℕ, zero, suc, _+_}
+use mathlib.Core.List.{List}
+use lib.ListN.{getD, set, replicate}
+use lib.IntN.{ℤ}
+use Rattle.steps.specs.Azimuth.{fromMark, onward, misclosure, balanced}
+use Rattle.steps.specs.Distance.{seaLevel, combine}
+use Rattle.steps.specs.Share.{share}
+use Rattle.desk.specs.declared.Fields.{Fields}
+use Rattle.desk.specs.declared.Balanced.{Balanced}
+
+abbrev pub angleAt : Fields → ℕ → ℕ
+angleAt f k = getD (f .angles) k 0
+
+-- "Leg 1: azimuth to the mark plus its angle right. Each next leg: the azimuth before, plus 180 degrees, plus its angle. The closing azimuth likewise
+-- with the closing angle"
+unfoldable pub carried : Fields → ℕ → ℕ
+carried f zero = fromMark (f .mark) (angleAt f zero)
+carried f (suc k) = onward (carried f k) (angleAt f (suc k))
+
+-- "Misclosure W = carried less given"
+unfoldable pub misclosureOf : Fields → ℤ
+misclosureOf f = misclosure (carried f (f .legs)) (f .given)
+
+-- "Share of W at the j-th of n+1 angles"; "the balanced azimuth of leg j is the carried one less that share": leg k is the (k+1)-th
+unfoldable pub balancedOf : Fields → ℕ → ℕ
+balancedOf f k = balanced (carried f k) (share (misclosureOf f) (k + 1) (f .legs + 1))
+
+-- a list whose first n items are those of a sequence
+unfoldable pub filled : (ℕ → ℕ) → ℕ → List ℕ → List ℕ
+filled g zero l = l
+filled g (suc n) l = set (filled g n l) n (g n)
+
+-- the list before any leg is balanced
+abbrev pub zeros : List ℕ
+zeros = replicate 64 0
+
+-- the traverse with its angles balanced; "Combined factor: their sum less 10,000,000", the sea level factor and that of the row
+unfoldable pub balancedTraverse : Fields → Balanced
+balancedTraverse f =
+    record {
+      legs = f .legs;
+      w = record { v = misclosureOf f };
+      azimuths = filled (balancedOf f) (f .legs) zeros;
+      distances = f .distances;
+      factor = combine (seaLevel (f .elevation .v)) (f .scale);
+      from = f .from;
+      to = f .to;
+      place = f .place;
+    }

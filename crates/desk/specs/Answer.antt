@@ -1,0 +1,66 @@
+-- Paper 01, "Nine refusals" and "Closure and compass rule": what a traverse is answered with, and what is left in the lent words.
+use mathlib.Core.Bool.{Bool, false, cond}
+use mathlib.Core.List.{List}
+use Prim.Native.Nat.{ℕ, _+_}
+use lib.IntN.{ℤ, pos}
+use Rattle.steps.specs.Closure.{closes, precision}
+use Rattle.steps.specs.Course.{north, east}
+use Rattle.desk.specs.Line.{run, closure}
+use Rattle.desk.specs.Traverse.{longOf, line, placed, isLoop, areaOf}
+use Rattle.desk.specs.declared.Balanced.{Balanced}
+use Rattle.desk.specs.declared.Answer.{Answer}
+use Rattle.desk.specs.declared.Answer.the-variants.{Refused, Adjusted}
+
+-- number, place, n, W, both closures, the precision number, the doubled area and whether it is a loop
+pub record Told : Type 0 where
+  pub number : ℕ
+  pub place : ℕ
+  pub legs : ℕ
+  pub w : ℤ
+  pub north : ℤ
+  pub east : ℤ
+  pub precision : ℕ
+  pub area : ℤ
+  pub loop : Bool
+
+-- "A refusal returns number and place, every other number zero"
+abbrev pub refused : ℕ → ℕ → Told
+refused n p = record { number = n; place = p; legs = 0; w = pos 0; north = pos 0; east = pos 0; precision = 0; area = pos 0; loop = false }
+
+abbrev pub told : Answer → Told
+told (Refused n p) = refused n p
+told (Adjusted legs w n e p area loop) =
+    record { number = 0; place = 0; legs = legs; w = w .v; north = n .v; east = e .v; precision = p; area = area .v; loop = loop }
+
+-- ---- the second step: 9 at the close, or the adjusted traverse
+abbrev pub northClosure : Balanced → ℤ
+northClosure b = closure (line north b)
+
+abbrev pub eastClosure : Balanced → ℤ
+eastClosure b = closure (line east b)
+
+abbrev pub distanceRun : Balanced → ℕ
+distanceRun b = run (longOf b) (b .legs)
+
+unfoldable pub closesOn : Balanced → Bool
+closesOn b = closes (northClosure b) (eastClosure b) (distanceRun b)
+
+unfoldable pub second : Balanced → Told
+second b =
+    cond (closesOn b)
+    (record {
+      number = 0;
+      place = 0;
+      legs = b .legs;
+      w = b .w .v;
+      north = northClosure b;
+      east = eastClosure b;
+      precision = precision (northClosure b) (eastClosure b) (distanceRun b);
+      area = areaOf b;
+      loop = isLoop b;
+    })
+    (refused 9 (b .place))
+
+-- "Accepted coordinates go to a lent list of signed 64-bit words"; on a refusal "lent memory is untouched"
+unfoldable pub secondWords : Balanced → List ℤ → List ℤ
+secondWords b words = cond (closesOn b) (placed b (b .legs + 1) words) words

@@ -1,0 +1,5 @@
+pub mod Angles
+pub mod Answer
+pub mod Line
+pub mod Traverse
+pub mod Inside

@@ -1,0 +1,55 @@
+-- Paper 01, "Azimuths and legs" and "Closure and compass rule", of a traverse whose angles are balanced: its two coordinates as lines.
+use mathlib.Core.Bool.{Bool, cond, _&&_}
+use mathlib.Core.List.{List, [], _∷_, _++_}
+use Prim.Native.Nat.{ℕ, zero, suc, _+_, _*_}
+use lib.Dec.{eqb}
+use lib.ListN.{getD, set}
+use lib.IntN.{ℤ, pos, _-ℤ_}
+use Rattle.steps.specs.Area.{doubled}
+use Rattle.steps.specs.Course.{Axis, north, east, course}
+use Rattle.steps.specs.Distance.{grid}
+use Rattle.desk.specs.Line.{Line, adjusted}
+use Rattle.desk.specs.declared.Point.{Point}
+use Rattle.desk.specs.declared.Balanced.{Balanced}
+
+abbrev pub along : Axis → Point → ℕ
+along north p = p .north
+along east p = p .east
+
+-- the grid distance and the balanced azimuth of leg k
+abbrev pub longOf : Balanced → ℕ → ℕ
+longOf b k = grid (getD (b .distances) k 0) (b .factor)
+
+abbrev pub azimuthOf : Balanced → ℕ → ℕ
+azimuthOf b k = getD (b .azimuths) k 0
+
+-- one coordinate of the traverse
+abbrev pub line : Axis → Balanced → Line
+line axis b =
+    record {
+      from = pos (along axis (b .from));
+      to = pos (along axis (b .to));
+      legs = b .legs;
+      move = λ (k : ℕ). course axis (longOf b k) (azimuthOf b k);
+      long = longOf b;
+    }
+
+-- "northing, then easting, of stations 0 to n": the lent words with the first k stations put in
+unfoldable pub placed : Balanced → ℕ → List ℤ → List ℤ
+placed b zero words = words
+placed b (suc k) words = set (set (placed b k words) (2 * k) (adjusted (line north b) k)) (2 * k + 1) (adjusted (line east b) k)
+
+-- "coordinates taken from station 0": northing, then easting, of the first k stations
+abbrev pub offset : Balanced → Axis → ℕ → ℤ
+offset b axis k = adjusted (line axis b) k -ℤ adjusted (line axis b) 0
+
+unfoldable pub offsetsTo : Balanced → ℕ → List ℤ
+offsetsTo b zero = []
+offsetsTo b (suc k) = offsetsTo b k ++ (offset b north k ∷ offset b east k ∷ [])
+
+-- "for tapes whose two fixed points have equal coordinates: the sum round stations 0 to n-1"; "Otherwise 0 and marked as no loop"
+abbrev pub isLoop : Balanced → Bool
+isLoop b = eqb (b .from .north) (b .to .north) && eqb (b .from .east) (b .to .east)
+
+unfoldable pub areaOf : Balanced → ℤ
+areaOf b = cond (isLoop b) (doubled (offsetsTo b (b .legs))) (pos 0)

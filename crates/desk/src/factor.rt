@@ -1,0 +1,25 @@
+// The combined factor of a traverse: sea level, and the row of the mean latitude.
+use whole::Whole;
+ghost use mathlib.Core.Path.{_≡_};
+ghost use mathlib.Core.Bool.{true, _&&_};
+ghost use Prim.Native.Nat.{_≤_, _<_};
+ghost use lib.IntN.{pos, negℤ};
+ghost use lib.Signed.{leZ};
+ghost use Rattle.steps.specs.Distance.{seaLevel, combine};
+
+fn sea_level(elevation: Whole) -> u64
+    requires { ⌜ (leZ (negℤ (pos 1000)) (elevation .v) && leZ (elevation .v) (pos 20000)) ≡ true ⌝ }
+    ensures is { λ r. ⌜ r ≡ seaLevel (elevation .v) ⌝ }
+    ensures size { λ r. ⌜ (9990000 ≤ r) × (r ≤ 10010000) ⌝ }
+{
+    steps::distance::sea_level(elevation).value()
+}
+
+pub fn combined(elevation: Whole, scale: u32) -> u32
+    requires { ⌜ (leZ (negℤ (pos 1000)) (elevation .v) && leZ (elevation .v) (pos 20000)) ≡ true ⌝ }
+    requires { ⌜ (9990000 ≤ scale) × (scale ≤ 10010000) ⌝ }
+    ensures is { λ r. ⌜ r ≡ combine (seaLevel (elevation .v)) scale ⌝ }
+    ensures size { λ r. ⌜ (9980000 ≤ r) × (r < 10020011) ⌝ }
+{
+    steps::distance::combine(sea_level(elevation), scale as u64).value() as u32
+}

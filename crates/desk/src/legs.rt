@@ -1,0 +1,76 @@
+// The run along the legs: each adds its latitude, its departure and its grid distance.
+use crate::Balanced;
+use crate::Sums;
+use whole::Whole;
+ghost use mathlib.Core.Path.{_≡_};
+ghost use Prim.Native.Nat.{_≤_, _<_};
+ghost use lib.IntN.{natAbs};
+ghost use Rattle.sines.specs.Sine.{Table};
+ghost use Rattle.steps.specs.Course.{north, east, course};
+ghost use Rattle.steps.specs.Distance.{grid};
+ghost use Rattle.desk.specs.Inside.{LegSound, Sound, Small, Advanced, Ran};
+
+fn grid_distance(distance: u32, factor: u32) -> u64
+    requires { ⌜ (1000 ≤ distance) × (distance ≤ 20000000) ⌝ }
+    requires { ⌜ (9980000 ≤ factor) × (factor ≤ 10020010) ⌝ }
+    ensures is { λ r. ⌜ r ≡ grid distance factor ⌝ }
+    ensures size { λ r. ⌜ r ≤ 20040020 ⌝ }
+{
+    steps::distance::grid(distance as u64, factor as u64).value()
+}
+
+fn latitude(table: &[u32; 5401], distance: u64, azimuth: u32) -> Whole
+    requires { ⌜ Table (now table) ⌝ }
+    requires { ⌜ (distance ≤ 20100000) × (azimuth < 12960000) ⌝ }
+    ensures is { λ r. ⌜ r .v ≡ course north distance azimuth ⌝ }
+    ensures size { λ r. ⌜ natAbs (r .v) ≤ 2010000 ⌝ }
+{
+    steps::course::latitude_in(table, distance, azimuth).value()
+}
+
+fn departure(table: &[u32; 5401], distance: u64, azimuth: u32) -> Whole
+    requires { ⌜ Table (now table) ⌝ }
+    requires { ⌜ (distance ≤ 20100000) × (azimuth < 12960000) ⌝ }
+    ensures is { λ r. ⌜ r .v ≡ course east distance azimuth ⌝ }
+    ensures size { λ r. ⌜ natAbs (r .v) ≤ 2010000 ⌝ }
+{
+    steps::course::departure_in(table, distance, azimuth).value()
+}
+
+// One leg on.
+fn advance(table: &[u32; 5401], s: Sums, factor: u32, distance: u32, azimuth: u32) -> Sums
+    requires { ⌜ Table (now table) ⌝ }
+    requires { ⌜ LegSound factor distance azimuth ⌝ }
+    requires { ⌜ Small s ⌝ }
+    ensures { λ r. ⌜ Advanced s factor distance azimuth r ⌝ }
+{
+    let long = grid_distance(distance, factor);
+    let north = s.north.plus(latitude(table, long, azimuth));
+    let east = s.east.plus(departure(table, long, azimuth));
+    Sums {
+        north,
+        east,
+        run: s.run + long,
+    }
+}
+
+// What is summed at every station.
+pub fn run_all(table: &[u32; 5401], b: Balanced) -> [Sums; 65]
+    requires { ⌜ Table (now table) ⌝ }
+    requires { ⌜ Sound b ⌝ }
+    ensures { λ r. ⌜ Ran b (b .legs) r ⌝ }
+{
+    let mut s = Sums {
+        north: Whole::of_size(b.from.north as u64),
+        east: Whole::of_size(b.from.east as u64),
+        run: 0,
+    };
+    let mut stations = [s; 65];
+    let mut k: usize = 0;
+    while k < b.legs {
+        s = advance(table, s, b.factor, b.distances[k], b.azimuths[k]);
+        k = k + 1;
+        stations[k] = s;
+    }
+    stations
+}

@@ -1,0 +1,47 @@
+// The second step: from a traverse whose angles are balanced to its closures and its adjusted stations, or refusal 9. No word is written before the
+// test is passed.
+use crate::Answer;
+use crate::Balanced;
+use crate::area;
+use crate::legs;
+use crate::places;
+ghost use mathlib.Core.Path.{_≡_};
+ghost use Prim.Native.Nat.{_≤_};
+ghost use lib.ListN.{length};
+ghost use Rattle.sines.specs.Sine.{Table};
+ghost use Rattle.desk.specs.Answer.{told, second, secondWords};
+ghost use Rattle.desk.specs.Inside.{Sound};
+
+pub fn settle(table: &[u32; 5401], b: Balanced, words: &mut [i64]) -> Answer
+    requires { ⌜ Table (now table) ⌝ }
+    requires { ⌜ Sound b ⌝ }
+    requires { ⌜ 130 ≤ length (now words) ⌝ }
+    ensures answer { λ r. ⌜ told r ≡ second b ⌝ }
+    ensures words { λ r. ⌜ now (words .exit) ≡ secondWords b (now (words .entry)) ⌝ }
+{
+    let stations = legs::run_all(table, b);
+    let n = b.legs;
+    let c = places::closing(b, stations[n]);
+    if places::within_limit(c) {
+        places::put_all(b, stations, c, words);
+        let precision = places::precision_of(c);
+        let area = area::area(b, words);
+        let is_loop = area::is_loop(b);
+        let w = b.w;
+        let north = c.north;
+        let east = c.east;
+        return Answer::Adjusted {
+            legs: n,
+            w,
+            north,
+            east,
+            precision,
+            area,
+            is_loop,
+        };
+    }
+    Answer::Refused {
+        number: 9,
+        place: b.place,
+    }
+}
