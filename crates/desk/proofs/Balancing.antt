@@ -29,7 +29,7 @@ use Rattle.steps.proofs.Turning.{turn-is, misclosure-is}
 use Rattle.desk.specs.Angles.{angleAt, carried, misclosureOf, balancedOf, filled, zeros, balancedTraverse}
 use Rattle.desk.specs.Inside.{Turned, Ready, Sound}
 use Rattle.whole.specs.declared.Whole.{Whole}
-use Rattle.desk.specs.declared.Fields.{Fields}
+use Rattle.tape.specs.declared.Fields.{Fields}
 use Rattle.desk.specs.declared.Balanced.{Balanced}
 
 -- ---- an azimuth from two angles

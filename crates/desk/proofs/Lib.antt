@@ -1,7 +1,10 @@
 pub mod Balancing
 pub mod Compass
 pub mod Looping
+pub mod Printed
 pub mod Running
 pub mod Scaling
 pub mod Settling
+pub mod Single
+pub mod Stepping
 pub mod Words

@@ -2,12 +2,17 @@
 use mathlib.Core.Bool.{Bool, false, cond}
 use mathlib.Core.List.{List}
 use Prim.Native.Nat.{ℕ, _+_}
+use lib.Dec.{ltb}
+use lib.ListN.{length}
 use lib.IntN.{ℤ, pos}
 use Rattle.steps.specs.Closure.{closes, precision}
 use Rattle.steps.specs.Course.{north, east}
+use Rattle.desk.specs.Angles.{firstOf}
 use Rattle.desk.specs.Line.{run, closure}
 use Rattle.desk.specs.Traverse.{longOf, line, placed, isLoop, areaOf}
 use Rattle.desk.specs.declared.Balanced.{Balanced}
+use Rattle.desk.specs.declared.Checked.{Checked}
+use Rattle.desk.specs.declared.Checked.the-variants as checked
 use Rattle.desk.specs.declared.Answer.{Answer}
 use Rattle.desk.specs.declared.Answer.the-variants.{Refused, Adjusted}
 
@@ -64,3 +69,18 @@ second b =
 -- "Accepted coordinates go to a lent list of signed 64-bit words"; on a refusal "lent memory is untouched"
 unfoldable pub secondWords : Balanced → List ℤ → List ℤ
 secondWords b words = cond (closesOn b) (placed b (b .legs + 1) words) words
+
+-- ---- the whole: "Refusal 1 is tried first", for under 130 words; then the first step, then the second
+abbrev pub afterFirst : Checked → Balanced → Told
+afterFirst (checked.Refused n p) b = refused n p
+afterFirst checked.Good b = second b
+
+unfoldable pub traversed : List ℕ → ℕ → Told
+traversed tape room = cond (ltb room 130) (refused 1 0) (afterFirst (firstOf tape .checked) (firstOf tape .balanced))
+
+abbrev pub wordsAfterFirst : Checked → Balanced → List ℤ → List ℤ
+wordsAfterFirst (checked.Refused n p) b words = words
+wordsAfterFirst checked.Good b words = secondWords b words
+
+unfoldable pub traversedWords : List ℕ → List ℤ → List ℤ
+traversedWords tape words = cond (ltb (length words) 130) words (wordsAfterFirst (firstOf tape .checked) (firstOf tape .balanced) words)

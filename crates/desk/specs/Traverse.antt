@@ -9,7 +9,7 @@ use Rattle.steps.specs.Area.{doubled}
 use Rattle.steps.specs.Course.{Axis, north, east, course}
 use Rattle.steps.specs.Distance.{grid}
 use Rattle.desk.specs.Line.{Line, adjusted}
-use Rattle.desk.specs.declared.Point.{Point}
+use Rattle.tape.specs.declared.Point.{Point}
 use Rattle.desk.specs.declared.Balanced.{Balanced}
 
 abbrev pub along : Axis → Point → ℕ

@@ -1,7 +1,7 @@
 // The angles: azimuths carried along the legs, the misclosure W, and the balanced azimuths.
 use crate::Balanced;
-use crate::Fields;
 use crate::factor;
+use tape::Fields;
 use whole::Whole;
 ghost use mathlib.Core.Path.{_≡_};
 ghost use Prim.Native.Nat.{ℕ, _+_, _≤_, _<_};

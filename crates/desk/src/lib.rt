@@ -1,26 +1,9 @@
-// The desk: a tape in, an adjusted traverse out. What stands so far is the run along the legs of a traverse whose angles are balanced.
+// The desk: a tape in, an adjusted traverse out, in two steps. The first checks and balances the angles, the second closes and adjusts.
+use tape::Point;
 use whole::Whole;
-
-// A point of the grid, in hundredths of a foot.
-pub struct Point {
-    pub north: u32,
-    pub east: u32,
-}
-
-// The fields of a tape by their names. The angle right at station k turns to leg k; that at the last station is the closing one.
-pub struct Fields {
-    pub legs: usize,
-    pub angles: [u32; 65],
-    pub distances: [u32; 64],
-    pub latitude: u32,
-    pub elevation: Whole,
-    pub scale: u32,
-    pub from: Point,
-    pub mark: u32,
-    pub to: Point,
-    pub given: u32,
-    pub place: usize,
-}
+ghost use mathlib.Core.Path.{_≡_};
+ghost use lib.ListN.{length};
+ghost use Rattle.desk.specs.Answer.{told, traversed, traversedWords};
 
 // A traverse whose angles are balanced: the misclosure W, the balanced azimuth and the measured distance of each leg, the combined factor, the two fixed
 // points, and the place of the close. No latitude, departure or place of a station stands in it.
@@ -33,6 +16,17 @@ pub struct Balanced {
     pub from: Point,
     pub to: Point,
     pub place: usize,
+}
+
+// What the first step answers: a refusal, or that angles close; beside it the traverse with its angles balanced, all zeros on a refusal.
+pub enum Checked {
+    Refused { number: u32, place: usize },
+    Good,
+}
+
+pub struct First {
+    pub checked: Checked,
+    pub balanced: Balanced,
 }
 
 // What is summed along the legs up to a station: the preliminary place and the distance run.
@@ -61,7 +55,27 @@ pub enum Answer {
 
 mod angles;
 mod area;
+mod checking;
 mod factor;
 mod legs;
 mod places;
 mod second;
+
+// The whole: a tape in, an adjusted traverse out. Refusal 1 is tried before all, and no word is written on a refusal.
+pub fn traverse(tape: &[u8], words: &mut [i64]) -> Answer
+    ensures answer { λ r. ⌜ told r ≡ traversed (now (tape .entry)) (length (now (words .entry))) ⌝ }
+    ensures words { λ r. ⌜ now (words .exit) ≡ traversedWords (now (tape .entry)) (now (words .entry)) ⌝ }
+{
+    if words.len() < 130 {
+        return Answer::Refused {
+            number: 1,
+            place: 0,
+        };
+    }
+    let a = checking::first(tape);
+    let checked = a.checked;
+    match checked {
+        Checked::Refused { number, place } => Answer::Refused { number, place },
+        Checked::Good => second::with_table(a.balanced, words),
+    }
+}

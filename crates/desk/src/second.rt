@@ -45,3 +45,14 @@ pub fn settle(table: &[u32; 5401], b: Balanced, words: &mut [i64]) -> Answer
         place: b.place,
     }
 }
+
+// The same with the desk's own table, which is taken once for a traverse.
+pub fn with_table(b: Balanced, words: &mut [i64]) -> Answer
+    requires { ⌜ Sound b ⌝ }
+    requires { ⌜ 130 ≤ length (now words) ⌝ }
+    ensures answer { λ r. ⌜ told r ≡ second b ⌝ }
+    ensures words { λ r. ⌜ now (words .exit) ≡ secondWords b (now (words .entry)) ⌝ }
+{
+    let own = sines::table();
+    settle(&own, b, words)
+}

@@ -1,6 +1,8 @@
 pub mod Back
 pub mod Bodies
 pub mod Branch
+pub mod Gathering
+pub mod Held
 pub mod Numbers
 pub mod Round
 pub mod Rows

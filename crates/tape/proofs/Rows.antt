@@ -36,7 +36,7 @@ Has m [] = ⊥
 Has m (r ∷ rs) = Row m (r .kind) (r .values) ⊎ Has m rs
 
 -- the state that a step leads to, where it leads to one, has P
-abbrev Leads : (State → Type 0) → Step → Type 0
+abbrev pub Leads : (State → Type 0) → Step → Type 0
 Leads P (Next u) = P u
 Leads P (Stop n) = Unit {0}
 

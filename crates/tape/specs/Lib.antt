@@ -1,4 +1,5 @@
 pub mod Bytes
+pub mod Fields
 pub mod Record
 pub mod Tape
 pub mod Write

@@ -3,6 +3,7 @@ use whole::Whole;
 ghost use mathlib.Core.Path.{_≡_};
 ghost use Rattle.tape.specs.Record.{goodRecord, bytesOfRecord};
 ghost use Rattle.tape.specs.Tape.{readingOf, told};
+ghost use Rattle.tape.specs.Fields.{takenOf};
 ghost use Rattle.tape.specs.Write.{Wrote};
 
 // A record, with its fields as the paper names them.
@@ -59,9 +60,37 @@ pub enum Written {
     Refused { number: u32, place: usize },
 }
 
+// A point of the grid, in hundredths of a foot.
+pub struct Point {
+    pub north: u32,
+    pub east: u32,
+}
+
+// The fields of a tape by their names. The angle right at station k turns to leg k; that at the last station is the closing one.
+pub struct Fields {
+    pub legs: usize,
+    pub angles: [u32; 65],
+    pub distances: [u32; 64],
+    pub latitude: u32,
+    pub elevation: Whole,
+    pub scale: u32,
+    pub from: Point,
+    pub mark: u32,
+    pub to: Point,
+    pub given: u32,
+    pub place: usize,
+}
+
+// A reading, and the fields of a tape that reads; all zeros where it does not.
+pub struct Taken {
+    pub reading: Reading,
+    pub fields: Fields,
+}
+
 mod digits;
 mod order;
 mod ranges;
+mod taking;
 mod writing;
 
 // The reading of any tape, before refusals 8 and 9.
@@ -70,6 +99,24 @@ pub fn read(tape: &[u8]) -> Reading
     ensures told { λ r. ⌜ told r ≡ told (readingOf (now (tape .entry))) ⌝ }
 {
     order::read_all(tape)
+}
+
+// The reading of any tape, and the fields of one that reads.
+pub fn take(tape: &[u8]) -> Taken
+    ensures { λ r. ⌜ r ≡ takenOf (now (tape .entry)) ⌝ }
+{
+    let reading = order::read_all(tape);
+    match reading {
+        Reading::Reads(_st) => {
+            let mut fields = taking::gather(tape);
+            fields.scale = taking::find_scale(tape, fields.latitude);
+            Taken { reading, fields }
+        }
+        Reading::Refused { .. } => Taken {
+            reading,
+            fields: taking::none(),
+        },
+    }
 }
 
 // One record, written at a place of the lent bytes: its room is tried, then its fields, and the rest of the bytes lent on to the writer of its kind.

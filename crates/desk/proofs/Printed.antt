@@ -1,0 +1,53 @@
+-- Paper 01, "The sheet, and one printed whole": what the written rules give of the printed tape is what the paper prints, computed by antt from the
+-- definitions. The tape is read, checked, balanced, run, closed and adjusted by them; no code is run.
+use mathlib.Core.Path.{_≡_, refl}
+use mathlib.Core.Bool.{true}
+use mathlib.Core.List.{List, [], _∷_}
+use lib.ListN.{replicate, take}
+use lib.IntN.{pos, negℤ}
+use Rattle.whole.specs.Nearest.{nearest}
+use Rattle.whole.specs.Sum.{sumTo}
+use Rattle.sines.specs.Exact.{exactSine, exactQuarter, bySeries, series, weight, unity, straight, pi, factorial}
+use Rattle.sines.specs.Quadrant.{around, turned, folded}
+use Rattle.sines.specs.Sine.{entry, between, quarterBy, sineOf}
+use Rattle.steps.specs.Area.{cross, nextStation, doubledTo}
+use Rattle.steps.specs.Azimuth.{turn, misclosure, closesAngles, balanced}
+use Rattle.steps.specs.Closure.{closes, root, precision}
+use Rattle.steps.specs.Course.{move, sineAlong}
+use Rattle.steps.specs.Distance.{seaLevel, combine, grid}
+use Rattle.steps.specs.Share.{share}
+use Rattle.tape.specs.Bytes.{num, bytes, meant, written}
+use Rattle.tape.specs.Record.{Rec, rec, table, fieldsOf, bodyOf, numbersOf, goodOf, bytesOf}
+use Rattle.tape.specs.Tape.{mayCome, roomOf, rowNext, projectNext, afterOf, takeOf, judge, stepOf, walk, readingOf, recordsFrom, tapeOf}
+use Rattle.tape.specs.Fields.{nothing, putIn, gathered, isRow, scaleOf}
+use Rattle.tape.specs.Fields.{fieldsOf as named}
+use Rattle.desk.specs.Line.{run, preliminary, adjusted}
+use Rattle.desk.specs.Traverse.{placed, offsetsTo, areaOf}
+use Rattle.desk.specs.Angles.{carried, misclosureOf, balancedOf, filled, balancedTraverse, checkedAngles, firstOf}
+use Rattle.desk.specs.Answer.{closesOn, second, secondWords, traversed, traversedWords}
+
+-- two rows, the project, the start, four legs of a square, and the close on the same point, half a second off
+abbrev records : List Rec
+records =
+    rec 5 (pos 2650 ∷ pos 10000572 ∷ [])
+    ∷ rec 5 (pos 2651 ∷ pos 10000528 ∷ [])
+    ∷ rec 1 (pos 2650 ∷ pos 1196 ∷ [])
+    ∷ rec 2 (pos 5000000 ∷ pos 200000000 ∷ pos 0 ∷ [])
+    ∷ rec 3 (pos 6480000 ∷ pos 1000000 ∷ [])
+    ∷ rec 3 (pos 9720000 ∷ pos 1000020 ∷ [])
+    ∷ rec 3 (pos 9720000 ∷ pos 1000010 ∷ [])
+    ∷ rec 3 (pos 9720000 ∷ pos 1000000 ∷ [])
+    ∷ rec 4 (pos 3240005 ∷ pos 5000000 ∷ pos 200000000 ∷ pos 0 ∷ [])
+    ∷ []
+
+-- W=+0.5 N=-0.01 E=+0.02 P=178886, and AREA2 2000020.0000
+pub printed-told : traversed (tapeOf records) 130
+    ≡ record { number = 0; place = 0; legs = 4; w = pos 5; north = negℤ (pos 1); east = pos 2; precision = 178886; area = pos 20000200000; loop = true }
+unfolding nearest sumTo exactSine exactQuarter bySeries series weight unity straight pi factorial around turned folded entry between quarterBy sineOf cross nextStation doubledTo turn misclosure closesAngles balanced closes root precision move sineAlong seaLevel combine grid share num bytes meant written table fieldsOf bodyOf numbersOf goodOf bytesOf mayCome roomOf rowNext projectNext afterOf takeOf judge stepOf walk readingOf recordsFrom tapeOf nothing putIn gathered isRow scaleOf named run preliminary adjusted placed offsetsTo areaOf carried misclosureOf balancedOf filled balancedTraverse checkedAngles firstOf closesOn second traversed
+printed-told = refl
+
+-- the five stations
+pub printed-words : take 10 (traversedWords (tapeOf records) (replicate 130 (pos 7)))
+    ≡ pos 5000000 ∷ pos 200000000 ∷ pos 5100000 ∷ pos 200000000 ∷ pos 5100001 ∷ pos 200100001 ∷ pos 5000000 ∷ pos 200100000 ∷ pos 5000000 ∷ pos 200000000 ∷ []
+unfolding nearest sumTo exactSine exactQuarter bySeries series weight unity straight pi factorial around turned folded entry between quarterBy sineOf turn misclosure closesAngles balanced closes move sineAlong seaLevel combine grid share num bytes meant written table fieldsOf bodyOf numbersOf goodOf bytesOf mayCome roomOf rowNext projectNext afterOf takeOf judge stepOf walk readingOf recordsFrom tapeOf nothing putIn gathered isRow scaleOf named run preliminary adjusted placed carried misclosureOf balancedOf filled balancedTraverse checkedAngles firstOf closesOn secondWords traversedWords
+printed-words = refl

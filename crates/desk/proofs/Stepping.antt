@@ -1,0 +1,139 @@
+-- The two steps one after the other. A tape that reads has its fields in range, so no step asks for more than it has, and each way out of the code is
+-- the same way out of the definition.
+use Prim.Native.Nat.{ℕ, _≤_, _<_}
+use native.Mathlib.Omega.{arith}
+use mathlib.Core.Path.{_≡_, refl, sym, _∙_, ap}
+use mathlib.Core.Bool.{Bool, true, false}
+use mathlib.Core.List.{List}
+use borrow.Author.Tests.{lt-ltb, le-ltb}
+use lib.Dec.{T}
+use lib.ListN.{length}
+use lib.IntN.{ℤ, pos, negℤ}
+use lib.Signed.{leZ}
+use Rattle.answer.proofs.Telling.{both}
+use Rattle.steps.specs.Azimuth.{closesAngles}
+use Rattle.steps.specs.Course.{Axis, north, east}
+use Rattle.tape.specs.declared.Fields.{Fields}
+use Rattle.tape.specs.declared.Reading.{Reading}
+use Rattle.tape.specs.declared.Reading.the-variants as reading
+use Rattle.tape.specs.declared.State.{State}
+use Rattle.tape.specs.declared.Taken.{Taken}
+use Rattle.tape.specs.Tape.{readingOf}
+use Rattle.tape.specs.Fields.{fieldsOf, takenIf, takenOf, Ranged}
+use Rattle.tape.proofs.Held.{ranged}
+use Rattle.desk.specs.declared.Answer.{Answer}
+use Rattle.desk.specs.declared.Balanced.{Balanced}
+use Rattle.desk.specs.declared.Checked.the-variants.{Refused, Good}
+use Rattle.desk.specs.declared.First.{First}
+use Rattle.desk.specs.Angles.{misclosureOf, balancedTraverse, unbalanced, refusedFirst, checkedAngles, firstIf, firstOf}
+use Rattle.desk.specs.Answer.{told, refused, second, secondWords, traversed, traversedWords}
+use Rattle.desk.specs.Traverse.{along}
+use Rattle.desk.specs.Inside.{Ready, Sound, Sounds}
+
+-- ---- the first step, from the fields
+pub refused-is : (n p : ℕ) (b : Balanced) → b ≡ unbalanced → record { checked = Refused n p; balanced = b } ≡ refusedFirst n p
+refused-is n p b e = rw e
+
+pub refused-sounds : (n p : ℕ) (b : Balanced) → Sounds (record { checked = Refused n p; balanced = b })
+refused-sounds n p b = record { sound = λ e. let z : _≡_ {A = ℕ} 0 1 = cc in absurd (omega arith) }
+
+pub good-sounds : (b : Balanced) → Sound b → Sounds (record { checked = Good; balanced = b })
+good-sounds b s = record { sound = λ e. s }
+
+module _ (f : Fields) (x : Bool) (w : ℤ) (t : x ≡ closesAngles w (f .legs)) (e : w ≡ misclosureOf f) where
+  pub checked-good : (b : Balanced) → x ≡ true → b ≡ balancedTraverse f → record { checked = Good; balanced = b } ≡ checkedAngles f
+  unfolding checkedAngles
+  checked-good b h g = rw (← e, ← t, h, g)
+
+  pub checked-bad : (r : First) → x ≡ false → r ≡ refusedFirst 8 (f .place) → r ≡ checkedAngles f
+  unfolding checkedAngles
+  checked-bad r h g = rw (← e, ← t, h) g
+
+-- ---- the fields of a tape that reads
+T-true : (b : Bool) → T b → b ≡ true
+T-true true t = refl
+T-true false t = absurd t
+
+ready-of : (f : Fields) → Ranged f → Ready f
+ready-of f r =
+    let z = f .elevation .v in
+    record {
+      turned = record { some = r .legs .0; few = r .legs .1; mark = r .mark; given = r .given; angles = r .angles };
+      elevation = both (leZ (negℤ (pos 1000)) z) (leZ z (pos 20000)) (T-true _ (r .elevation .0 .le)) (T-true _ (r .elevation .1 .le));
+      scale-low = r .scale .0;
+      scale-high = r .scale .1;
+      far = λ k h. r .distances k h .0;
+      near = λ k h. r .distances k h .1;
+      from = from;
+      to = to;
+    }
+  where
+    from : (axis : Axis) → along axis (f .from) ≤ 1000000000
+    from north = r .from .0
+    from east = r .from .1
+
+    to : (axis : Axis) → along axis (f .to) ≤ 1000000000
+    to north = r .to .0
+    to east = r .to .1
+
+-- ---- the first step, from any tape
+module _ (tape : List ℕ) (t : Taken) (e : t ≡ takenOf tape) where
+  -- what was taken, by the reading
+  taken-is : (P : Taken → Type 0) → ((a : State) → readingOf tape ≡ reading.Reads a → P (record { reading = reading.Reads a; fields = fieldsOf tape }))
+      → ((n p : ℕ) → readingOf tape ≡ reading.Refused n p → P (takenIf (reading.Refused n p) (fieldsOf tape))) → P t
+  unfolding takenOf
+  taken-is P f g = rw e (go (readingOf tape) refl)
+    where
+      go : (r : Reading) → readingOf tape ≡ r → P (takenIf r (fieldsOf tape))
+      go (reading.Reads a) h = f a h
+      go (reading.Refused n p) h = g n p h
+
+  pub ready : (a : State) → t .reading ≡ reading.Reads a → Ready (t .fields)
+  ready a =
+      taken-is (λ u. u .reading ≡ reading.Reads a → Ready (u .fields)) (λ b h i. ready-of (fieldsOf tape) (ranged tape (record { last = b; reads = h })))
+      (λ n p h i. let z : _≡_ {A = ℕ} 0 1 = cc in absurd (omega arith))
+
+  pub first-refused : (r : First) (n p : ℕ) → t .reading ≡ reading.Refused n p → r ≡ refusedFirst n p → r ≡ firstOf tape
+  unfolding firstOf
+  first-refused r n p =
+      taken-is (λ u. u .reading ≡ reading.Refused n p → r ≡ refusedFirst n p → r ≡ firstOf tape) (λ b h i j. let z : _≡_ {A = ℕ} 0 1 = cc in absurd (omega arith))
+      (λ m q h i j. j ∙ ap (λ (x : Reading). firstIf x (fieldsOf tape)) (sym (h ∙ i)))
+
+  pub first-reads : (r : First) (a : State) → t .reading ≡ reading.Reads a → r ≡ checkedAngles (t .fields) → r ≡ firstOf tape
+  unfolding firstOf
+  first-reads r a =
+      taken-is (λ u. u .reading ≡ reading.Reads a → r ≡ checkedAngles (u .fields) → r ≡ firstOf tape) (λ b h i j. rw h j)
+      (λ n p h i j. let z : _≡_ {A = ℕ} 0 1 = cc in absurd (omega arith))
+
+-- ---- the whole
+module _ (tape : List ℕ) (words : List ℤ) where
+  module _ (few : length words < 130) where
+    pub short-told : refused 1 0 ≡ traversed tape (length words)
+    unfolding traversed
+    short-told = rw (lt-ltb (length words) 130 few)
+
+    pub short-words : words ≡ traversedWords tape words
+    unfolding traversedWords
+    short-words = rw (lt-ltb (length words) 130 few)
+
+  module _ (room : 130 ≤ length words) (a : First) (e : a ≡ firstOf tape) where
+    module _ (n p : ℕ) (h : a .checked ≡ Refused n p) where
+      pub refused-told : refused n p ≡ traversed tape (length words)
+      unfolding traversed
+      refused-told = rw (le-ltb (length words) 130 room, ← e, h)
+
+      pub refused-words : words ≡ traversedWords tape words
+      unfolding traversedWords
+      refused-words = rw (le-ltb (length words) 130 room, ← e, h)
+
+    module _ (h : a .checked ≡ Good) where
+      pub good-told : (r : Answer) → told r ≡ second (a .balanced) → told r ≡ traversed tape (length words)
+      unfolding traversed
+      good-told r g = rw (le-ltb (length words) 130 room, ← e, h) g
+
+      pub good-words : (l : List ℤ) → l ≡ secondWords (a .balanced) words → l ≡ traversedWords tape words
+      unfolding traversedWords
+      good-words l g = rw (le-ltb (length words) 130 room, ← e, h) g
+
+pub first-sound : (a : First) → Sounds a → a .checked ≡ Good → Sound (a .balanced)
+first-sound a s h = s .sound h
