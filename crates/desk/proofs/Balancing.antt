@@ -27,10 +27,11 @@ use Rattle.steps.specs.Share.{share, angleShareStep}
 use Rattle.steps.proofs.Sharing.{share-most}
 use Rattle.steps.proofs.Turning.{turn-is, misclosure-is}
 use Rattle.desk.specs.Angles.{angleAt, carried, misclosureOf, balancedOf, filled, zeros, balancedTraverse}
+use Rattle.desk.specs.Traverse.{azimuthOf}
 use Rattle.desk.specs.Inside.{Turned, Ready, Sound}
 use Rattle.whole.specs.declared.Whole.{Whole}
 use Rattle.tape.specs.declared.Fields.{Fields}
-use Rattle.desk.specs.declared.Balanced.{Balanced}
+use Rattle.desk.proofs.Scaling.{combined-range}
 
 -- ---- an azimuth from two angles
 module _ (r : Count) (n a b x : ℕ) (e : toldCount r ≡ ofAngles a b (pos (x % circle))) (f : pos n ≡ toldCount r .value) (h : a < circle) (i : b < circle) where
@@ -121,31 +122,36 @@ module _ (f : Fields) where
   unfolding filled balancedOf
   filled-next k a r w l m i e g h = rw (add-one k, e, i, g, h)
 
-  module _ (k : ℕ) (l : List ℕ) (h : k ≤ f .legs) (i : f .legs ≤ k) (e : l ≡ filled (balancedOf f) k zeros) where
-    pub filled-last : l ≡ filled (balancedOf f) (f .legs) zeros
-    filled-last = let j : k ≡ f .legs = omega arith in subst (λ (n : ℕ). l ≡ filled (balancedOf f) n zeros) j e
-
-    pub filled-turned : Turned f → (j : ℕ) → j < f .legs → getD l j 0 < circle
-    unfolding balancedOf
-    filled-turned t j b =
-        rw (filled-last, filled-at (balancedOf f) zeros (f .legs) j (omega (arith, t .few)) b)
-        (balanced-most (carried f j) (share (misclosureOf f) (j + 1) (f .legs + 1)))
+  pub filled-last : (k : ℕ) (l : List ℕ) → k ≤ f .legs → f .legs ≤ k → l ≡ filled (balancedOf f) k zeros → l ≡ filled (balancedOf f) (f .legs) zeros
+  filled-last k l h i e = let j : k ≡ f .legs = omega arith in subst (λ (n : ℕ). l ≡ filled (balancedOf f) n zeros) j e
 
   -- ---- the traverse with its angles balanced
-  module _ (w : Whole) (l : List ℕ) (n : ℕ) where
-    abbrev made : Balanced
-    made = record { legs = f .legs; w = w; azimuths = l; distances = f .distances; factor = n; from = f .from; to = f .to; place = f .place }
+  pub traverse-is : (w : Whole) (l : List ℕ) (n : ℕ) → w .v ≡ misclosureOf f → l ≡ filled (balancedOf f) (f .legs) zeros → n ≡ combine (seaLevel (f .elevation .v)) (f .scale)
+      → record { legs = f .legs; w = w; azimuths = l; distances = f .distances; factor = n; from = f .from; to = f .to; place = f .place } ≡ balancedTraverse f
+  unfolding balancedTraverse
+  traverse-is w l n e g h = rw (← e, ← g, ← h)
 
-    pub traverse-is : w .v ≡ misclosureOf f → l ≡ filled (balancedOf f) (f .legs) zeros → n ≡ combine (seaLevel (f .elevation .v)) (f .scale) → made ≡ balancedTraverse f
-    unfolding balancedTraverse
-    traverse-is e g h = rw (← e, ← g, ← h)
+  -- the azimuth that leg k has in it is its balanced one
+  leg-azimuth : (k : ℕ) → k < f .legs → f .legs ≤ 64 → azimuthOf (balancedTraverse f) k ≡ balancedOf f k
+  unfolding balancedTraverse
+  leg-azimuth k h few = filled-at (balancedOf f) zeros (f .legs) k (omega arith) h
 
-    pub traverse-sound : Ready f → ((k : ℕ) → k < f .legs → getD l k 0 < circle) → 9980000 ≤ n → n < 10020011 → Sound made
-    traverse-sound r turned low high =
-        record {
-          some = r .turned .some;
-          few = r .turned .few;
-          leg = λ k h. record { least = low; most = omega arith; far = r .far k h; near = r .near k h; turned = turned k h };
-          from = r .from;
-          to = r .to;
-        }
+  pub sound-of : Ready f → Sound (balancedTraverse f)
+  unfolding balancedTraverse balancedOf
+  sound-of r =
+      let s = combined-range (f .elevation .v) (f .scale) (r .elevation) (r .scale-low) (r .scale-high) in
+      record {
+        some = r .turned .some;
+        few = r .turned .few;
+        leg =
+            λ k h.
+            record {
+              least = s .0;
+              most = s .1;
+              far = r .far k h;
+              near = r .near k h;
+              turned = rw (leg-azimuth k h (r .turned .few)) (balanced-most (carried f k) (share (misclosureOf f) (k + 1) (f .legs + 1)));
+            };
+        from = r .from;
+        to = r .to;
+      }

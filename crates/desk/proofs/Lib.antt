@@ -1,3 +1,5 @@
+pub mod Accepted
+pub mod Alone
 pub mod Balancing
 pub mod Compass
 pub mod Looping

@@ -24,7 +24,7 @@ use Rattle.desk.specs.Traverse.{along, longOf, line, offset, offsetsTo, 
 use Rattle.desk.specs.Inside.{Sound, Written}
 use Rattle.desk.specs.declared.Balanced.{Balanced}
 use Rattle.desk.proofs.Compass.{run-up, first-fixed}
-use Rattle.desk.proofs.Running.{drift}
+use Rattle.desk.proofs.Running.{near-most, drift}
 use Rattle.desk.proofs.Settling.{far-run}
 
 -- ---- the range of the area step
@@ -94,10 +94,7 @@ module _ (b : Balanced) (sound : Sound b) where
 
     place-small : (z : ℤ) → z ≡ adjusted (line axis b) k → natAbs z < 2 ^ 40
     place-small z e =
-        let p = adjusted (line axis b) k in
-        let f = pos (along axis (b .from)) in
-        let g : p ≡ p -ℤ f +ℤ f = ring (p ∷ f ∷ []) (λ v. search exps) tt in
-        rw (e, g) (omega (arith, triangle (p -ℤ f) f, place-drift, sound .from axis))
+        rw e (omega (arith, near-most (adjusted (line axis b) k) (along axis (b .from)) 130000000 place-drift, sound .from axis))
 
   pub north-small : (k : ℕ) (words : List ℤ) → Written b words → natAbs (closure (line north b)) ≤ 26000 → k ≤ b .legs
       → natAbs (getD words (2 * k) (pos 0)) < 2 ^ 40

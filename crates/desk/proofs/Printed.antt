@@ -23,8 +23,8 @@ use Rattle.tape.specs.Fields.{nothing, putIn, gathered, isRow, scaleOf}
 use Rattle.tape.specs.Fields.{fieldsOf as named}
 use Rattle.desk.specs.Line.{run, preliminary, adjusted}
 use Rattle.desk.specs.Traverse.{placed, offsetsTo, areaOf}
-use Rattle.desk.specs.Angles.{carried, misclosureOf, balancedOf, filled, balancedTraverse, checkedAngles, firstOf}
-use Rattle.desk.specs.Answer.{closesOn, second, secondWords, traversed, traversedWords}
+use Rattle.desk.specs.Angles.{carried, misclosureOf, balancedOf, filled, balancedTraverse}
+use Rattle.desk.specs.Answer.{checkedAngles, firstOf, closesOn, second, secondWords, traversed, traversedWords}
 
 -- two rows, the project, the start, four legs of a square, and the close on the same point, half a second off
 abbrev records : List Rec

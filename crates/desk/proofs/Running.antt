@@ -33,7 +33,7 @@ use Rattle.desk.specs.declared.Sums.{Sums}
 
 -- ---- the grid distance of a leg
 module _ (distance factor : ℕ) (near : distance ≤ 20000000) (most : factor ≤ 10020010) where
-  grid-most : grid distance factor ≤ 20040020
+  pub grid-most : grid distance factor ≤ 20040020
   unfolding grid
   grid-most = half-up-most (distance * factor) 10000000 20040020 (omega arith) (omega (arith, product-most distance factor 20000000 10020010 near most))
 
@@ -65,6 +65,12 @@ module _ (axis : Axis) (distance azimuth : ℕ) (near : distance ≤ 20100000) (
     pub course-small : natAbs v ≤ 2010000
     course-small = rw course-is course-most
 
+-- a place near a fixed one is not much larger
+pub near-most : (p : ℤ) (f k : ℕ) → natAbs (p -ℤ pos f) ≤ k → natAbs p ≤ k + f
+near-most p f k h =
+    let e : p ≡ p -ℤ pos f +ℤ pos f = ring (p ∷ pos f ∷ []) (λ v. search exps) tt in
+    rw e (omega (arith, triangle (p -ℤ pos f) (pos f)))
+
 -- ---- a balanced traverse whose fields are in range
 module _ (b : Balanced) (sound : Sound b) where
   pub leg-sound : (k : ℕ) → k < b .legs → LegSound (b .factor) (getD (b .distances) k 0) (getD (b .azimuths) k 0)
@@ -92,10 +98,7 @@ module _ (b : Balanced) (sound : Sound b) where
 
   place-small : (axis : Axis) (k : ℕ) (z : ℤ) → z ≡ preliminary (line axis b) k → k ≤ b .legs → natAbs z < 2 ^ 40
   place-small axis k z e h =
-      let p = preliminary (line axis b) k in
-      let f = pos (along axis (b .from)) in
-      let g : p ≡ p -ℤ f +ℤ f = ring (p ∷ f ∷ []) (λ v. search exps) tt in
-      rw (e, g) (omega (arith, triangle (p -ℤ f) f, drift axis k h, sound .from axis, sound .few))
+      rw e (omega (arith, near-most (preliminary (line axis b) k) (along axis (b .from)) (2010000 * k) (drift axis k h), sound .from axis, sound .few))
 
   pub stands-small : (k : ℕ) (s : Sums) → k ≤ b .legs → Stands b k s → Small s
   stands-small k s h w =

@@ -37,6 +37,15 @@ sea-range (negsuc n) h =
     let e : pos 20906000 +ℤ negsuc n ≡ pos (20906000 - suc n) = same (search ints) (omega arith) in
     rw e (quotient-range (20906000 - suc n) (omega arith) (omega arith))
 
+combined-most : (sea scale : ℕ) → 9990000 ≤ sea → sea ≤ 10010000 → 9990000 ≤ scale → scale ≤ 10010000
+    → (9980000 ≤ combine sea scale) × (combine sea scale ≤ 10020010)
+unfolding combine
+combined-most sea scale low high least most = (omega arith, omega arith)
+
+pub combined-range : (z : ℤ) (scale : ℕ) → (leZ (negℤ (pos 1000)) z && leZ z (pos 20000)) ≡ true → 9990000 ≤ scale → scale ≤ 10010000
+    → (9980000 ≤ combine (seaLevel z) scale) × (combine (seaLevel z) scale ≤ 10020010)
+combined-range z scale good least most = let s = sea-range z good in combined-most (seaLevel z) scale (s .0) (s .1) least most
+
 -- ---- the steps, whose input is in range
 module _ (r : Count) (n : ℕ) (z : ℤ) (good : (leZ (negℤ (pos 1000)) z && leZ z (pos 20000)) ≡ true) (t : toldCount r ≡ seaLevelStep z) (f : pos n ≡ toldCount r .value) where
   pub sea-is : n ≡ seaLevel z
@@ -56,10 +65,5 @@ module _ (r : Count) (n sea scale : ℕ) (low : 9990000 ≤ sea) (high : sea ≤
   pub combined-is : (z : ℤ) → sea ≡ seaLevel z → n ≡ combine (seaLevel z) scale
   combined-is z e = rw (← e) combined-sum
 
-  pub combined-low : 9980000 ≤ n
-  unfolding combine
-  combined-low = omega (arith, combined-sum)
-
   pub combined-high : n < 10020011
-  unfolding combine
-  combined-high = omega (arith, combined-sum)
+  combined-high = let m = combined-most sea scale low high least most in rw combined-sum (omega (arith, m .1))

@@ -1,32 +1,41 @@
--- Any two outcomes that the promise of `traverse` allows coincide, in what is told and in every lent word; and of a tape that reads both depend on its
--- fields alone.
-use Prim.Native.Nat.{ℕ}
-use mathlib.Core.Path.{_≡_, sym, _∙_}
+-- Any two outcomes that the promise of `traverse` allows coincide, the answer and every lent word. What an answer tells is the whole of it: number 0 is told
+-- by an adjusted traverse alone, since an accepted tape has a leg and a refusal tells none.
+use Prim.Native.Nat.{ℕ, _≤_}
+use native.Mathlib.Omega.{arith}
+use native.Mathlib.Decide.{ℕ-discrete}
+use mathlib.Core.Path.{_≡_, sym, _∙_, ap}
+use mathlib.Core.Bool.{cond}
 use mathlib.Core.List.{List}
+use borrow.Author.Tests.{ne-eqb}
+use lib.Dec.{eqb}
 use lib.ListN.{length}
 use lib.IntN.{ℤ}
-use Rattle.tape.specs.declared.Reading.the-variants.{Reads}
-use Rattle.tape.specs.declared.State.{State}
-use Rattle.tape.specs.Tape.{readingOf}
-use Rattle.tape.specs.Fields.{fieldsOf}
 use Rattle.desk.specs.declared.Answer.{Answer}
-use Rattle.desk.specs.Angles.{firstOf}
-use Rattle.desk.specs.Answer.{told, traversed, traversedWords}
+use Rattle.desk.specs.declared.Answer.the-variants.{Refused, Adjusted}
+use Rattle.desk.specs.Answer.{Told, told, second, traversed, traversedWords}
+use Rattle.desk.proofs.Accepted.{accepted, accepted-told, accepted-sound}
+
+-- the answer that tells it
+abbrev telling : Told → Answer
+telling t =
+    cond (eqb (t .number) 0)
+    (Adjusted (t .legs) (record { v = t .w }) (record { v = t .north }) (record { v = t .east }) (t .precision) (record { v = t .area }) (t .loop))
+    (Refused (t .number) (t .place))
+
+module _ (tape : List ℕ) (room : ℕ) where
+  some-leg : traversed tape room .number ≡ 0 → 1 ≤ traversed tape room .legs
+  unfolding second
+  some-leg e = let a = accepted tape room e in rw (accepted-told tape room a, a .closes) (accepted-sound tape room a .some)
+
+  one-answer : (x : Answer) → told x ≡ traversed tape room → x ≡ telling (traversed tape room)
+  one-answer (Adjusted legs w n e p area loop) h = ap telling h
+  one-answer (Refused n p) h =
+      elim (ℕ-discrete n 0) [
+        | yes z ↦ absurd (omega (arith, some-leg (ap (λ (t : Told). t .number) (sym h) ∙ z), ap (λ (t : Told). t .legs) h))
+        | no z ↦ rw (← h, ne-eqb n 0 z)
+      ]
 
 pub traverse-single : (tape : List ℕ) (words l m : List ℤ) (x y : Answer)
     → told x ≡ traversed tape (length words) → l ≡ traversedWords tape words → told y ≡ traversed tape (length words) → m ≡ traversedWords tape words
-    → (told x ≡ told y) × (l ≡ m)
-traverse-single tape words l m x y e f g h = (e ∙ sym g, f ∙ sym h)
-
-module _ (s t : List ℕ) (a b : State) (e : readingOf s ≡ Reads a) (f : readingOf t ≡ Reads b) (same : fieldsOf s ≡ fieldsOf t) where
-  first-same : firstOf s ≡ firstOf t
-  unfolding firstOf
-  first-same = rw (e, f, same)
-
-  pub fields-alone : (room : ℕ) → traversed s room ≡ traversed t room
-  unfolding traversed
-  fields-alone room = rw first-same
-
-  pub fields-alone-words : (words : List ℤ) → traversedWords s words ≡ traversedWords t words
-  unfolding traversedWords
-  fields-alone-words words = rw first-same
+    → (x ≡ y) × (l ≡ m)
+traverse-single tape words l m x y e f g h = (one-answer tape (length words) x e ∙ sym (one-answer tape (length words) y g), f ∙ sym h)

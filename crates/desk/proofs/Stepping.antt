@@ -6,7 +6,6 @@ use mathlib.Core.Path.{_≡_, refl, sym, _∙_, ap}
 use mathlib.Core.Bool.{Bool, true, false}
 use mathlib.Core.List.{List}
 use borrow.Author.Tests.{lt-ltb, le-ltb}
-use lib.Dec.{T}
 use lib.ListN.{length}
 use lib.IntN.{ℤ, pos, negℤ}
 use lib.Signed.{leZ}
@@ -19,26 +18,22 @@ use Rattle.tape.specs.declared.Reading.the-variants as reading
 use Rattle.tape.specs.declared.State.{State}
 use Rattle.tape.specs.declared.Taken.{Taken}
 use Rattle.tape.specs.Tape.{readingOf}
-use Rattle.tape.specs.Fields.{fieldsOf, takenIf, takenOf, Ranged}
-use Rattle.tape.proofs.Held.{ranged}
+use Rattle.tape.specs.Fields.{fieldsOf, takenIf, takenOf, DoesRead}
+use Rattle.tape.proofs.Branch.{T-true, by-test}
+use Rattle.tape.proofs.Held.{Ranged, ranged}
 use Rattle.desk.specs.declared.Answer.{Answer}
 use Rattle.desk.specs.declared.Balanced.{Balanced}
 use Rattle.desk.specs.declared.Checked.the-variants.{Refused, Good}
 use Rattle.desk.specs.declared.First.{First}
-use Rattle.desk.specs.Angles.{misclosureOf, balancedTraverse, unbalanced, refusedFirst, checkedAngles, firstIf, firstOf}
-use Rattle.desk.specs.Answer.{told, refused, second, secondWords, traversed, traversedWords}
+use Rattle.desk.specs.Angles.{misclosureOf, balancedTraverse}
+use Rattle.desk.specs.Answer.{told, unbalanced, refusedFirst, checkedAngles, firstIf, firstOf, refused, second, secondWords, traversed, traversedWords}
 use Rattle.desk.specs.Traverse.{along}
-use Rattle.desk.specs.Inside.{Ready, Sound, Sounds}
+use Rattle.desk.specs.Inside.{Ready, Sound}
+use Rattle.desk.proofs.Balancing.{sound-of}
 
 -- ---- the first step, from the fields
 pub refused-is : (n p : ℕ) (b : Balanced) → b ≡ unbalanced → record { checked = Refused n p; balanced = b } ≡ refusedFirst n p
 refused-is n p b e = rw e
-
-pub refused-sounds : (n p : ℕ) (b : Balanced) → Sounds (record { checked = Refused n p; balanced = b })
-refused-sounds n p b = record { sound = λ e. let z : _≡_ {A = ℕ} 0 1 = cc in absurd (omega arith) }
-
-pub good-sounds : (b : Balanced) → Sound b → Sounds (record { checked = Good; balanced = b })
-good-sounds b s = record { sound = λ e. s }
 
 module _ (f : Fields) (x : Bool) (w : ℤ) (t : x ≡ closesAngles w (f .legs)) (e : w ≡ misclosureOf f) where
   pub checked-good : (b : Balanced) → x ≡ true → b ≡ balancedTraverse f → record { checked = Good; balanced = b } ≡ checkedAngles f
@@ -50,10 +45,6 @@ module _ (f : Fields) (x : Bool) (w : ℤ) (t : x ≡ closesAngles w (f .legs)) 
   checked-bad r h g = rw (← e, ← t, h) g
 
 -- ---- the fields of a tape that reads
-T-true : (b : Bool) → T b → b ≡ true
-T-true true t = refl
-T-true false t = absurd t
-
 ready-of : (f : Fields) → Ranged f → Ready f
 ready-of f r =
     let z = f .elevation .v in
@@ -76,6 +67,9 @@ ready-of f r =
     to north = r .to .0
     to east = r .to .1
 
+pub tape-ready : (tape : List ℕ) → DoesRead tape → Ready (fieldsOf tape)
+tape-ready tape r = ready-of (fieldsOf tape) (ranged tape r)
+
 -- ---- the first step, from any tape
 module _ (tape : List ℕ) (t : Taken) (e : t ≡ takenOf tape) where
   -- what was taken, by the reading
@@ -90,7 +84,7 @@ module _ (tape : List ℕ) (t : Taken) (e : t ≡ takenOf tape) where
 
   pub ready : (a : State) → t .reading ≡ reading.Reads a → Ready (t .fields)
   ready a =
-      taken-is (λ u. u .reading ≡ reading.Reads a → Ready (u .fields)) (λ b h i. ready-of (fieldsOf tape) (ranged tape (record { last = b; reads = h })))
+      taken-is (λ u. u .reading ≡ reading.Reads a → Ready (u .fields)) (λ b h i. tape-ready tape (record { last = b; reads = h }))
       (λ n p h i. let z : _≡_ {A = ℕ} 0 1 = cc in absurd (omega arith))
 
   pub first-refused : (r : First) (n p : ℕ) → t .reading ≡ reading.Refused n p → r ≡ refusedFirst n p → r ≡ firstOf tape
@@ -104,6 +98,21 @@ module _ (tape : List ℕ) (t : Taken) (e : t ≡ takenOf tape) where
   first-reads r a =
       taken-is (λ u. u .reading ≡ reading.Reads a → r ≡ checkedAngles (u .fields) → r ≡ firstOf tape) (λ b h i j. rw h j)
       (λ n p h i j. let z : _≡_ {A = ℕ} 0 1 = cc in absurd (omega arith))
+
+-- a step that does not refuse leaves a traverse in range to the next
+abbrev Leaves : First → Type 0
+Leaves x = x .checked ≡ Good → Sound (x .balanced)
+
+pub first-sound : (tape : List ℕ) (a : First) → a ≡ firstOf tape → Leaves a
+unfolding firstOf checkedAngles
+first-sound tape a e = rw e (go (readingOf tape) refl)
+  where
+    bad : (n p : ℕ) → Leaves (refusedFirst n p)
+    bad n p h = let z : _≡_ {A = ℕ} 0 1 = cc in absurd (omega arith)
+
+    go : (r : Reading) → readingOf tape ≡ r → Leaves (firstIf r (fieldsOf tape))
+    go (reading.Refused n p) h = bad n p
+    go (reading.Reads s) h = by-test Leaves (closesAngles _ _) (λ c i. sound-of (fieldsOf tape) (tape-ready tape (record { last = s; reads = h }))) (λ c. bad _ _)
 
 -- ---- the whole
 module _ (tape : List ℕ) (words : List ℤ) where
@@ -134,6 +143,3 @@ module _ (tape : List ℕ) (words : List ℤ) where
       pub good-words : (l : List ℤ) → l ≡ secondWords (a .balanced) words → l ≡ traversedWords tape words
       unfolding traversedWords
       good-words l g = rw (le-ltb (length words) 130 room, ← e, h) g
-
-pub first-sound : (a : First) → Sounds a → a .checked ≡ Good → Sound (a .balanced)
-first-sound a s h = s .sound h

@@ -10,16 +10,11 @@ use lib.Seq.{getD-set-same, getD-set-other}
 use lib.IntN.{ℤ, pos}
 use Rattle.steps.specs.Course.{Axis, north, east}
 use Rattle.desk.specs.Line.{adjusted}
-use Rattle.desk.specs.Traverse.{along, line, placed}
+use Rattle.desk.specs.Traverse.{along, line, at, placed}
 use Rattle.desk.specs.Inside.{Sound, Written}
 use Rattle.desk.specs.declared.Balanced.{Balanced}
 use Rattle.desk.proofs.Compass.{first-fixed, last-fixed}
 use Rattle.desk.proofs.Settling.{far-run, placed-length}
-
--- where the word of a coordinate of station k stands
-abbrev at : Axis → ℕ → ℕ
-at north k = 2 * k
-at east k = 2 * k + 1
 
 abbrev along-pair : Axis → ℤ → ℤ → ℤ
 along-pair north x y = x

@@ -5,12 +5,19 @@ use Prim.Native.Nat.{ℕ, _+_}
 use lib.Dec.{ltb}
 use lib.ListN.{length}
 use lib.IntN.{ℤ, pos}
+use Rattle.steps.specs.Azimuth.{closesAngles}
 use Rattle.steps.specs.Closure.{closes, precision}
 use Rattle.steps.specs.Course.{north, east}
-use Rattle.desk.specs.Angles.{firstOf}
+use Rattle.tape.specs.declared.Fields.{Fields}
+use Rattle.tape.specs.declared.Reading.{Reading}
+use Rattle.tape.specs.declared.Reading.the-variants as reading
+use Rattle.tape.specs.Tape.{readingOf}
+use Rattle.tape.specs.Fields.{fieldsOf}
+use Rattle.desk.specs.Angles.{misclosureOf, zeros, balancedTraverse}
 use Rattle.desk.specs.Line.{run, closure}
 use Rattle.desk.specs.Traverse.{longOf, line, placed, isLoop, areaOf}
 use Rattle.desk.specs.declared.Balanced.{Balanced}
+use Rattle.desk.specs.declared.First.{First}
 use Rattle.desk.specs.declared.Checked.{Checked}
 use Rattle.desk.specs.declared.Checked.the-variants as checked
 use Rattle.desk.specs.declared.Answer.{Answer}
@@ -36,6 +43,34 @@ abbrev pub told : Answer → Told
 told (Refused n p) = refused n p
 told (Adjusted legs w n e p area loop) =
     record { number = 0; place = 0; legs = legs; w = w .v; north = n .v; east = e .v; precision = p; area = area .v; loop = loop }
+
+-- ---- the first step: refusals 2 to 7 of the reading, then "Refused (8) exactly when its size exceeds 100 x (n+1)", at the close
+abbrev pub unbalanced : Balanced
+unbalanced =
+    record {
+      legs = 0;
+      w = record { v = pos 0 };
+      azimuths = zeros;
+      distances = zeros;
+      factor = 0;
+      from = record { north = 0; east = 0 };
+      to = record { north = 0; east = 0 };
+      place = 0;
+    }
+
+abbrev pub refusedFirst : ℕ → ℕ → First
+refusedFirst n p = record { checked = checked.Refused n p; balanced = unbalanced }
+
+unfoldable pub checkedAngles : Fields → First
+checkedAngles f =
+    cond (closesAngles (misclosureOf f) (f .legs)) (record { checked = checked.Good; balanced = balancedTraverse f }) (refusedFirst 8 (f .place))
+
+abbrev pub firstIf : Reading → Fields → First
+firstIf (reading.Refused n p) f = refusedFirst n p
+firstIf (reading.Reads st) f = checkedAngles f
+
+unfoldable pub firstOf : List ℕ → First
+firstOf tape = firstIf (readingOf tape) (fieldsOf tape)
 
 -- ---- the second step: 9 at the close, or the adjusted traverse
 abbrev pub northClosure : Balanced → ℤ

@@ -15,8 +15,6 @@ use Rattle.desk.specs.Line.{run, preliminary, closure, adjusted}
 use Rattle.desk.specs.Traverse.{along, longOf, azimuthOf, line}
 use Rattle.tape.specs.declared.Fields.{Fields}
 use Rattle.desk.specs.declared.Balanced.{Balanced}
-use Rattle.desk.specs.declared.First.{First}
-use Rattle.desk.specs.declared.Checked.the-variants.{Good}
 use Rattle.desk.specs.declared.Sums.{Sums}
 
 -- fields whose angles are within the circle
@@ -95,7 +93,3 @@ pub record Written (b : Balanced) (words : List ℤ) : Type 0 where
   pub room : 130 ≤ length words
   pub north : (k : ℕ) → k ≤ b .legs → getD words (2 * k) (pos 0) ≡ adjusted (line north b) k
   pub east : (k : ℕ) → k ≤ b .legs → getD words (2 * k + 1) (pos 0) ≡ adjusted (line east b) k
-
--- what the first step leaves to the second
-pub record Sounds (r : First) : Type 0 where
-  pub sound : r .checked ≡ Good → Sound (r .balanced)

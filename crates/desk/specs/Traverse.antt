@@ -34,10 +34,14 @@ line axis b =
       long = longOf b;
     }
 
--- "northing, then easting, of stations 0 to n": the lent words with the first k stations put in
+-- "northing, then easting, of stations 0 to n": where a coordinate of station k stands, and the lent words with the first k stations put in
+abbrev pub at : Axis → ℕ → ℕ
+at north k = 2 * k
+at east k = 2 * k + 1
+
 unfoldable pub placed : Balanced → ℕ → List ℤ → List ℤ
 placed b zero words = words
-placed b (suc k) words = set (set (placed b k words) (2 * k) (adjusted (line north b) k)) (2 * k + 1) (adjusted (line east b) k)
+placed b (suc k) words = set (set (placed b k words) (at north k) (adjusted (line north b) k)) (at east k) (adjusted (line east b) k)
 
 -- "coordinates taken from station 0": northing, then easting, of the first k stations
 abbrev pub offset : Balanced → Axis → ℕ → ℤ

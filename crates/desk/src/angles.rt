@@ -4,13 +4,12 @@ use crate::factor;
 use tape::Fields;
 use whole::Whole;
 ghost use mathlib.Core.Path.{_≡_};
-ghost use Prim.Native.Nat.{ℕ, _+_, _≤_, _<_};
-ghost use lib.ListN.{getD};
+ghost use Prim.Native.Nat.{_+_, _≤_, _<_};
 ghost use lib.IntN.{natAbs};
 ghost use Rattle.steps.specs.Azimuth.{fromMark, onward, closesAngles, balanced};
 ghost use Rattle.steps.specs.Share.{share};
 ghost use Rattle.desk.specs.Angles.{carried, misclosureOf, balancedOf, filled, zeros, balancedTraverse};
-ghost use Rattle.desk.specs.Inside.{Turned, Ready, Sound};
+ghost use Rattle.desk.specs.Inside.{Turned, Ready};
 
 // The azimuth of leg 1, and of each next leg.
 fn first(mark: u32, angle: u32) -> u32
@@ -78,8 +77,7 @@ pub fn balance(f: Fields, w: Whole) -> [u32; 64]
     requires { ⌜ Turned f ⌝ }
     requires { ⌜ w .v ≡ misclosureOf f ⌝ }
     requires { ⌜ natAbs (w .v) ≤ 6480000 ⌝ }
-    ensures is { λ r. ⌜ r ≡ filled (balancedOf f) (f .legs) zeros ⌝ }
-    ensures turned { λ r. ⌜ ((k : ℕ) → k < f .legs → getD r k 0 < 12960000) ⌝ }
+    ensures { λ r. ⌜ r ≡ filled (balancedOf f) (f .legs) zeros ⌝ }
 {
     let mut azimuths = [0u32; 64];
     let mut azimuth = first(f.mark, f.angles[0]);
@@ -97,8 +95,7 @@ pub fn balanced_traverse(f: Fields, w: Whole) -> Balanced
     requires { ⌜ Ready f ⌝ }
     requires { ⌜ w .v ≡ misclosureOf f ⌝ }
     requires { ⌜ natAbs (w .v) ≤ 6480000 ⌝ }
-    ensures is { λ r. ⌜ r ≡ balancedTraverse f ⌝ }
-    ensures sound { λ r. ⌜ Sound r ⌝ }
+    ensures { λ r. ⌜ r ≡ balancedTraverse f ⌝ }
 {
     let azimuths = balance(f, w);
     let factor = factor::combined(f.elevation, f.scale);

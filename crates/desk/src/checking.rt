@@ -8,8 +8,8 @@ use tape::Point;
 use tape::Reading;
 use whole::Whole;
 ghost use mathlib.Core.Path.{_≡_};
-ghost use Rattle.desk.specs.Angles.{unbalanced, refusedFirst, checkedAngles, firstOf};
-ghost use Rattle.desk.specs.Inside.{Ready, Sounds};
+ghost use Rattle.desk.specs.Answer.{unbalanced, refusedFirst, checkedAngles, firstOf};
+ghost use Rattle.desk.specs.Inside.{Ready};
 
 fn none() -> Balanced
     ensures { λ r. ⌜ r ≡ unbalanced ⌝ }
@@ -28,8 +28,7 @@ fn none() -> Balanced
 }
 
 fn refuse(number: u32, place: usize) -> First
-    ensures is { λ r. ⌜ r ≡ refusedFirst number place ⌝ }
-    ensures sound { λ r. ⌜ Sounds r ⌝ }
+    ensures { λ r. ⌜ r ≡ refusedFirst number place ⌝ }
 {
     First {
         checked: Checked::Refused { number, place },
@@ -40,8 +39,7 @@ fn refuse(number: u32, place: usize) -> First
 // From the fields: the misclosure is tested before anything is balanced.
 fn check_angles(f: Fields) -> First
     requires { ⌜ Ready f ⌝ }
-    ensures is { λ r. ⌜ r ≡ checkedAngles f ⌝ }
-    ensures sound { λ r. ⌜ Sounds r ⌝ }
+    ensures { λ r. ⌜ r ≡ checkedAngles f ⌝ }
 {
     let w = angles::misclosure_of(f);
     if angles::angles_close(w, f.legs) {
@@ -54,8 +52,7 @@ fn check_angles(f: Fields) -> First
 }
 
 pub fn first(tape: &[u8]) -> First
-    ensures is { λ r. ⌜ r ≡ firstOf (now (tape .entry)) ⌝ }
-    ensures sound { λ r. ⌜ Sounds r ⌝ }
+    ensures { λ r. ⌜ r ≡ firstOf (now (tape .entry)) ⌝ }
 {
     let t = tape::take(tape);
     let reading = t.reading;

@@ -2,7 +2,7 @@
 use whole::Whole;
 ghost use mathlib.Core.Path.{_≡_};
 ghost use mathlib.Core.Bool.{true, _&&_};
-ghost use Prim.Native.Nat.{_≤_, _<_};
+ghost use Prim.Native.Nat.{_≤_};
 ghost use lib.IntN.{pos, negℤ};
 ghost use lib.Signed.{leZ};
 ghost use Rattle.steps.specs.Distance.{seaLevel, combine};
@@ -18,8 +18,7 @@ fn sea_level(elevation: Whole) -> u64
 pub fn combined(elevation: Whole, scale: u32) -> u32
     requires { ⌜ (leZ (negℤ (pos 1000)) (elevation .v) && leZ (elevation .v) (pos 20000)) ≡ true ⌝ }
     requires { ⌜ (9990000 ≤ scale) × (scale ≤ 10010000) ⌝ }
-    ensures is { λ r. ⌜ r ≡ combine (seaLevel (elevation .v)) scale ⌝ }
-    ensures size { λ r. ⌜ (9980000 ≤ r) × (r < 10020011) ⌝ }
+    ensures { λ r. ⌜ r ≡ combine (seaLevel (elevation .v)) scale ⌝ }
 {
     steps::distance::combine(sea_level(elevation), scale as u64).value() as u32
 }

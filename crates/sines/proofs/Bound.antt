@@ -87,7 +87,7 @@ by-cosine : (a y : ℕ) → 1620000 < a → 3240000 - a ≡ y → exactQuarter a
 unfolding exactQuarter bySeries
 by-cosine a y h e = rw (lt-leb a 1620000 h, e)
 
-unity-positive : 0 < unity
+pub unity-positive : 0 < unity
 unfolding unity straight factorial
 unity-positive = lit< tt
 

@@ -21,7 +21,7 @@ use Rattle.tape.specs.declared.State.{State}
 use Rattle.tape.specs.declared.Step.the-variants.{Next}
 use Rattle.tape.specs.declared.Reading.the-variants.{Reads}
 use Rattle.tape.proofs.Numbers.{num-drop}
-use Rattle.tape.proofs.Walk.{taken}
+use Rattle.tape.proofs.Walk.{passed}
 use Rattle.tape.proofs.Branch.{by-test}
 use Rattle.tape.proofs.Round.{reads-next}
 
@@ -159,7 +159,7 @@ back-from (r ∷ rs) st at a e =
     let k = r .kind in
     let vs = r .values in
     let w = reads-next (judge st k true vs) at _ a e in
-    let good = taken st (w .0) k true vs (w .1) .ok in
+    let good = passed st (w .0) k true vs (w .1) .ok in
     let i = back-from rs (w .0) (at + 1 + bodyOf k) a (w .2) in
     (walk-back k vs (tapeOf rs) good st (w .0) at (w .1) ∙ i .0, rw (records-back k vs (tapeOf rs) good, i .1))
 

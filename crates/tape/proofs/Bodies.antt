@@ -2,12 +2,12 @@
 -- of that kind's row.
 use mathlib.Core.Path.{_≡_, refl, sym, subst}
 use mathlib.Core.Bool.{Bool, true, false, cond, _&&_, _||_, and-eq-true-iff}
-use mathlib.Core.List.{List, _++_}
-use Prim.Native.Nat.{ℕ, _+_, _≤_, _<_}
+use mathlib.Core.List.{List}
+use Prim.Native.Nat.{ℕ, _+_, _-_, _≤_, _<_}
 use native.Mathlib.Omega.{arith}
 use borrow.Author.Tests.{ltb-true, leb-true, eqb-true}
-use lib.Dec.{T, leb, eqb, ltb, leb→le, eqb→eq}
-use lib.ListN.{length, drop}
+use lib.Dec.{T, leb, eqb, ltb, leb→le}
+use lib.ListN.{length}
 use lib.IntN.{ℤ, pos, negsuc, negℤ, natAbs}
 use lib.Signed.{leZ}
 use mir.Syntax.{w32}
@@ -35,13 +35,6 @@ module _ (given found : Record) (e : given ≡ found) where
   pub found-after : (st : State) (r : Step) → r ≡ afterOf st (recOf found .kind) (recOf found .values) → r ≡ afterOf st (recOf given .kind) (recOf given .values)
   found-after st r h = rw e h
 
-  pub found-put : (out out′ : List ℕ) → out′ ≡ bytesOfRecord found ++ drop (length (bytesOfRecord found)) out
-      → out′ ≡ bytesOfRecord given ++ drop (length (bytesOfRecord given)) out
-  found-put out out′ h = rw e h
-
-  pub found-room : (m n : ℕ) → T (eqb m (length (bytesOfRecord found))) → length (bytesOfRecord given) ≤ n → m ≤ n
-  found-room m n t h = rw (eqb→eq m (length (bytesOfRecord found)) t, ← e) h
-
 -- its bytes are one for the kind and those of the body
 length-bytes : (r : Record) → length (bytesOfRecord r) ≡ 1 + bodyOf (recOf r .kind)
 unfolding recOf bytesOf bodyOf fieldsOf table bytes
@@ -51,8 +44,14 @@ length-bytes (kinds.Start n e m) = refl
 length-bytes (kinds.Leg a d) = refl
 length-bytes (kinds.Close a n e m) = refl
 
-pub length-given : (given : Record) (k n : ℕ) → k ≡ recOf given .kind → n ≡ bodyOf k → length (bytesOfRecord given) ≡ 1 + n
-length-given given k n e f = rw (f, e) (length-bytes given)
+-- k is its kind and n the length of its body, as the code has them
+module _ (given : Record) (k n : ℕ) (e : k ≡ recOf given .kind) (f : n ≡ bodyOf k) where
+  pub length-given : length (bytesOfRecord given) ≡ 1 + n
+  length-given = rw (f, e) (length-bytes given)
+
+  -- it has room where more than its body's length is left
+  pub room-given : (place len : ℕ) → place ≤ len → n < len - place → place + length (bytesOfRecord given) ≤ len
+  room-given place len low room = omega (arith, length-given)
 
 -- ---- the record read at a place is the one of the kind there
 module _ (given : Record) (k : ℕ) (vs : List ℤ) (e : recOf given ≡ rec k vs) where

@@ -17,7 +17,7 @@ use Rattle.whole.specs.Order.{_≤ᶻ_}
 use Rattle.whole.proofs.Diff.{int}
 use Rattle.tape.specs.Record.{Field, Rec, rec, fieldsOf, table, inRanges, goodOf, bodyOf}
 use Rattle.tape.specs.Tape.{mayCome, roomOf, rowNext, projectNext, firstOf, afterOf, judge, start, runOf, recordsOf}
-use Rattle.tape.specs.Fields.{fieldsOf as named, nothing, number, putIn, gathered, isRow, scaleOf, DoesRead, Between, Ranged}
+use Rattle.tape.specs.Fields.{fieldsOf as named, nothing, number, putIn, gathered, isRow, scaleOf, DoesRead}
 use Rattle.tape.specs.declared.State.{State}
 use Rattle.tape.specs.declared.Step.the-variants.{Next}
 use Rattle.tape.specs.declared.Fields.{Fields}
@@ -25,9 +25,24 @@ use Rattle.tape.specs.declared.Reading.{Reading}
 use Rattle.tape.specs.declared.Reading.the-variants.{Reads}
 use Rattle.tape.proofs.Branch.{by-test}
 use Rattle.tape.proofs.Bodies.{come-kind, is-close}
-use Rattle.tape.proofs.Walk.{taken}
+use Rattle.tape.proofs.Walk.{passed}
 use Rattle.tape.proofs.Round.{reads-next, lawful}
 use Rattle.tape.proofs.Rows.{Runs, done, more, In, Has, Leads, rows-mean}
+
+-- ---- what a tape that reads promises of its fields
+abbrev pub Between : ℕ → ℕ → ℕ → Type 0
+Between low high n = (low ≤ n) × (n ≤ high)
+
+pub record Ranged (f : Fields) : Type 0 where
+  pub legs : Between 1 64 (f .legs)
+  pub angles : (k : ℕ) → k ≤ f .legs → getD (f .angles) k 0 < 12960000
+  pub distances : (k : ℕ) → k < f .legs → Between 1000 20000000 (getD (f .distances) k 0)
+  pub elevation : (negℤ (pos 1000) ≤ᶻ f .elevation .v) × (f .elevation .v ≤ᶻ pos 20000)
+  pub scale : Between 9990000 10010000 (f .scale)
+  pub from : (f .from .north ≤ 1000000000) × (f .from .east ≤ 1000000000)
+  pub mark : f .mark < 12960000
+  pub to : (f .to .north ≤ 1000000000) × (f .to .east ≤ 1000000000)
+  pub given : f .given < 12960000
 
 no : {A : Type 0} → false ≡ true → A
 no e = absurd (subst T (sym e) tt)
@@ -245,7 +260,7 @@ module _ (st : State) (f : Fields) (at : ℕ) (vs : List ℤ) (h : Held st f) wh
 
   held-next : (k : ℕ) (u : State) → Next u ≡ judge st k true vs → Held u (putIn f at (rec k vs))
   held-next k u e =
-      let t = taken st u k true vs e in
+      let t = passed st u k true vs e in
       subst (Leads (λ u. Held u (putIn f at (rec k vs)))) (sym (t .next)) (held-after k (t .comes) (t .room) (t .ok))
 
 -- ---- all the records
@@ -261,7 +276,7 @@ scaled m done y = absurd y
 scaled m (more {st} {st′} {r = r} e p) y =
     by-test (Between 9990000 10010000) (eqb (r .kind) 5 && eqb (number r 0) m)
     (λ t. let five = eqb-true (r .kind) 5 (and-eq-true-iff (eqb (r .kind) 5) _ .0 t .0) in
-    plain _ _ _ (good-inside 5 (r .values) (rw five at (taken st st′ (r .kind) true (r .values) e .ok)) .1 .0))
+    plain _ _ _ (good-inside 5 (r .values) (rw five at (passed st st′ (r .kind) true (r .values) e .ok)) .1 .0))
     (λ t. scaled m p (⊎-elim (λ x. no (sym t ∙ rw (eq-eqb _ _ (x .0), eq-eqb _ _ (x .1)))) (λ x. x) y))
 
 -- a tape that reads is such a run, to the end

@@ -4,6 +4,7 @@ pub mod Branch
 pub mod Gathering
 pub mod Held
 pub mod Numbers
+pub mod Refusals
 pub mod Round
 pub mod Rows
 pub mod Single

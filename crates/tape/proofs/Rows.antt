@@ -16,7 +16,7 @@ use Rattle.tape.specs.declared.State.{State}
 use Rattle.tape.specs.declared.Step.{Step}
 use Rattle.tape.specs.declared.Step.the-variants.{Next, Stop}
 use Rattle.tape.proofs.Branch.{cond-and, by-test}
-use Rattle.tape.proofs.Walk.{taken}
+use Rattle.tape.proofs.Walk.{passed}
 
 -- the records rs, each taken, lead from st to st″
 pub data Runs : State → List Rec → State → Type 0 where
@@ -69,7 +69,7 @@ module _ (st : State) (k : ℕ) (vs : List ℤ) (m : ℕ) where
       (λ p. by-test P (eqb k 2) (λ q. same) (λ q. by-test P (eqb k 3) (λ r. same) (λ r. same))))
 
   taken-adds : (u : State) → Next u ≡ judge st k true vs → Adds u
-  taken-adds u e = subst (Leads Adds) (sym (taken st u k true vs e .next)) after-adds
+  taken-adds u e = subst (Leads Adds) (sym (passed st u k true vs e .next)) after-adds
 
 -- ---- all the records
 rows-run : {st u : State} {rs : List Rec} (m : ℕ) → Runs st rs u → In u m ↔ (In st m ⊎ Has m rs)

@@ -28,34 +28,34 @@ walk-skip st at (suc n) [] h = refl
 walk-skip st at (suc n) (x ∷ l) h = walk-skip st at n l (omega arith)
 
 -- what a record that is taken has shown
-pub record Taken (st st′ : State) (k : ℕ) (q : Bool) (vs : List ℤ) : Type 0 where
+pub record Passed (st st′ : State) (k : ℕ) (q : Bool) (vs : List ℤ) : Type 0 where
   pub comes : mayCome st k ≡ true
   pub room : eqb (roomOf st k) 0 ≡ true
   pub whole : q ≡ true
   pub ok : goodOf k vs ≡ true
   pub next : Next st′ ≡ afterOf st k vs
 
-taken-go : (st st′ : State) (k : ℕ) (q : Bool) (vs : List ℤ) (o p r : Bool) → mayCome st k ≡ o → eqb (roomOf st k) 0 ≡ p → goodOf k vs ≡ r
-    → Next st′ ≡ cond o (cond p (cond q (cond r (afterOf st k vs) (Stop 4)) (Stop 2)) (Stop (roomOf st k))) (Stop 3) → Taken st st′ k q vs
-taken-go st st′ k true vs true true true d f g e = record { comes = d; room = f; whole = refl; ok = g; next = e }
-taken-go st st′ k true vs true true false d f g e = let z : _≡_ {A = ℕ} 0 1 = cc in absurd (omega arith)
-taken-go st st′ k false vs true true r d f g e = let z : _≡_ {A = ℕ} 0 1 = cc in absurd (omega arith)
-taken-go st st′ k q vs true false r d f g e = let z : _≡_ {A = ℕ} 0 1 = cc in absurd (omega arith)
-taken-go st st′ k q vs false p r d f g e = let z : _≡_ {A = ℕ} 0 1 = cc in absurd (omega arith)
+passed-go : (st st′ : State) (k : ℕ) (q : Bool) (vs : List ℤ) (o p r : Bool) → mayCome st k ≡ o → eqb (roomOf st k) 0 ≡ p → goodOf k vs ≡ r
+    → Next st′ ≡ cond o (cond p (cond q (cond r (afterOf st k vs) (Stop 4)) (Stop 2)) (Stop (roomOf st k))) (Stop 3) → Passed st st′ k q vs
+passed-go st st′ k true vs true true true d f g e = record { comes = d; room = f; whole = refl; ok = g; next = e }
+passed-go st st′ k true vs true true false d f g e = let z : _≡_ {A = ℕ} 0 1 = cc in absurd (omega arith)
+passed-go st st′ k false vs true true r d f g e = let z : _≡_ {A = ℕ} 0 1 = cc in absurd (omega arith)
+passed-go st st′ k q vs true false r d f g e = let z : _≡_ {A = ℕ} 0 1 = cc in absurd (omega arith)
+passed-go st st′ k q vs false p r d f g e = let z : _≡_ {A = ℕ} 0 1 = cc in absurd (omega arith)
 
-pub taken : (st st′ : State) (k : ℕ) (q : Bool) (vs : List ℤ) → Next st′ ≡ judge st k q vs → Taken st st′ k q vs
+pub passed : (st st′ : State) (k : ℕ) (q : Bool) (vs : List ℤ) → Next st′ ≡ judge st k q vs → Passed st st′ k q vs
 unfolding judge takeOf
-taken st st′ k q vs e = taken-go st st′ k q vs (mayCome st k) (eqb (roomOf st k) 0) (goodOf k vs) refl refl refl e
+passed st st′ k q vs e = passed-go st st′ k q vs (mayCome st k) (eqb (roomOf st k) 0) (goodOf k vs) refl refl refl e
 
 -- a record at the front that is taken is whole
 pub step-whole : (st st′ : State) (l : List ℕ) → Next st′ ≡ stepOf st l → bodyOf (getD l 0 0) < length l
 unfolding stepOf
-step-whole st st′ l e = let k = getD l 0 0 in ltb-true _ _ (taken st st′ k (ltb (bodyOf k) (length l)) (numbersOf k l) e .whole)
+step-whole st st′ l e = let k = getD l 0 0 in ltb-true _ _ (passed st st′ k (ltb (bodyOf k) (length l)) (numbersOf k l) e .whole)
 
 -- and of a kind that may come
 pub step-comes : (st st′ : State) (l : List ℕ) → Next st′ ≡ stepOf st l → mayCome st (getD l 0 0) ≡ true
 unfolding stepOf
-step-comes st st′ l e = let k = getD l 0 0 in taken st st′ k (ltb (bodyOf k) (length l)) (numbersOf k l) e .comes
+step-comes st st′ l e = let k = getD l 0 0 in passed st st′ k (ltb (bodyOf k) (length l)) (numbersOf k l) e .comes
 
 module _ (s : List ℕ) (st : State) (at : ℕ) where
   -- the walk at a place within the tape

@@ -2,11 +2,10 @@
 use mathlib.Core.Bool.{Bool, cond, _&&_, _||_}
 use mathlib.Core.List.{List, [], _∷_}
 use mathlib.Core.Path.{_≡_}
-use Prim.Native.Nat.{ℕ, _+_, _≤_, _<_}
+use Prim.Native.Nat.{ℕ, _+_}
 use lib.Dec.{leb, eqb}
 use lib.ListN.{getD, set, replicate}
-use lib.IntN.{ℤ, pos, negℤ, natAbs}
-use Rattle.whole.specs.Order.{_≤ᶻ_}
+use lib.IntN.{ℤ, pos, natAbs}
 use Rattle.tape.specs.declared.State.{State}
 use Rattle.tape.specs.declared.Fields.{Fields}
 use Rattle.tape.specs.declared.Taken.{Taken}
@@ -108,18 +107,3 @@ takenOf tape = takenIf (readingOf tape) (fieldsOf tape)
 pub record DoesRead (tape : List ℕ) : Type 0 where
   pub last : State
   pub reads : readingOf tape ≡ Reads last
-
--- ---- what a tape that reads promises of its fields
-abbrev pub Between : ℕ → ℕ → ℕ → Type 0
-Between low high n = (low ≤ n) × (n ≤ high)
-
-pub record Ranged (f : Fields) : Type 0 where
-  pub legs : Between 1 64 (f .legs)
-  pub angles : (k : ℕ) → k ≤ f .legs → getD (f .angles) k 0 < 12960000
-  pub distances : (k : ℕ) → k < f .legs → Between 1000 20000000 (getD (f .distances) k 0)
-  pub elevation : (negℤ (pos 1000) ≤ᶻ f .elevation .v) × (f .elevation .v ≤ᶻ pos 20000)
-  pub scale : Between 9990000 10010000 (f .scale)
-  pub from : (f .from .north ≤ 1000000000) × (f .from .east ≤ 1000000000)
-  pub mark : f .mark < 12960000
-  pub to : (f .to .north ≤ 1000000000) × (f .to .east ≤ 1000000000)
-  pub given : f .given < 12960000

@@ -1,6 +1,10 @@
 // The tape: its records, the reading of a whole tape, and the writing of one record.
 use whole::Whole;
 ghost use mathlib.Core.Path.{_≡_};
+ghost use mathlib.Core.Bool.{true};
+ghost use mathlib.Core.List.{_++_};
+ghost use Prim.Native.Nat.{_+_, _≤_};
+ghost use lib.ListN.{length, take, drop};
 ghost use Rattle.tape.specs.Record.{goodRecord, bytesOfRecord};
 ghost use Rattle.tape.specs.Tape.{readingOf, told};
 ghost use Rattle.tape.specs.Fields.{takenOf};
@@ -119,6 +123,33 @@ pub fn take(tape: &[u8]) -> Taken
     }
 }
 
+// The rest of the bytes lent on to the writer of the record's kind.
+fn lend_on(out: &mut [u8], place: usize, given: Record)
+    requires { ⌜ place + length (bytesOfRecord given) ≤ length (now out) ⌝ }
+    requires { ⌜ goodRecord given ≡ true ⌝ }
+    ensures { λ r. ⌜ now (out .exit) ≡ take place (now (out .entry)) ++ (bytesOfRecord given ++ drop (place + length (bytesOfRecord given)) (now (out .entry))) ⌝ }
+{
+    match given {
+        Record::Row { minute, factor } => writing::put_row(&mut out[place..], minute, factor),
+        Record::Project {
+            latitude,
+            elevation,
+        } => writing::put_project(&mut out[place..], latitude, elevation),
+        Record::Start {
+            northing,
+            easting,
+            mark,
+        } => writing::put_start(&mut out[place..], northing, easting, mark),
+        Record::Leg { angle, distance } => writing::put_leg(&mut out[place..], angle, distance),
+        Record::Close {
+            angle,
+            northing,
+            easting,
+            mark,
+        } => writing::put_close(&mut out[place..], angle, northing, easting, mark),
+    }
+}
+
 // One record, written at a place of the lent bytes: its room is tried, then its fields, and the rest of the bytes lent on to the writer of its kind.
 // Any place may be given.
 pub fn write(out: &mut [u8], place: usize, given: Record) -> Written
@@ -138,7 +169,7 @@ pub fn write(out: &mut [u8], place: usize, given: Record) -> Written
         };
     }
     if ranges::good(given) {
-        writing::put(&mut out[place..], given);
+        lend_on(out, place, given);
         return Written::Until(place + 1 + body);
     }
     Written::Refused { number: 4, place }

@@ -15,6 +15,7 @@ ghost use Rattle.tape.specs.Record.{bodyOf, numbersOf, rec, recOf};
 ghost use Rattle.tape.specs.Tape.{recordsOf};
 ghost use Rattle.tape.specs.Fields.{nothing, putIn, gathered, isRow, scaleOf, DoesRead};
 
+// All zeros: the fields before any record, and those of a tape that does not read.
 pub fn none() -> Fields
     ensures { λ r. ⌜ r ≡ nothing ⌝ }
 {
@@ -34,6 +35,7 @@ pub fn none() -> Fields
     }
 }
 
+// The fields with the project's mean latitude and mean elevation.
 fn with_project(f: Fields, latitude: u32, elevation: Whole) -> Fields
     ensures { λ r. ⌜ r ≡ putIn f 0 (rec 1 (pos latitude ∷ elevation .v ∷ [])) ⌝ }
 {
@@ -43,6 +45,7 @@ fn with_project(f: Fields, latitude: u32, elevation: Whole) -> Fields
     g
 }
 
+// The fields with the start's point and its azimuth to the mark.
 fn with_start(f: Fields, north: u32, east: u32, mark: u32) -> Fields
     ensures { λ r. ⌜ r ≡ putIn f 0 (rec 2 (pos north ∷ pos east ∷ pos mark ∷ [])) ⌝ }
 {
@@ -53,6 +56,7 @@ fn with_start(f: Fields, north: u32, east: u32, mark: u32) -> Fields
     g
 }
 
+// The fields with the angle right and the distance of one more leg. A 65th leg has no place and leaves the fields as they are.
 fn with_leg(f: Fields, angle: u32, distance: u32) -> Fields
     ensures { λ r. ⌜ r ≡ putIn f 0 (rec 3 (pos angle ∷ pos distance ∷ [])) ⌝ }
 {
@@ -67,6 +71,7 @@ fn with_leg(f: Fields, angle: u32, distance: u32) -> Fields
     f
 }
 
+// The fields with the closing angle behind those of the legs, the close's point and azimuth, and its place.
 fn with_close(f: Fields, place: usize, angle: u32, north: u32, east: u32, given: u32) -> Fields
     requires { ⌜ f .legs ≤ 64 ⌝ }
     ensures { λ r. ⌜ r ≡ putIn f place (rec 4 (pos angle ∷ pos north ∷ pos east ∷ pos given ∷ [])) ⌝ }

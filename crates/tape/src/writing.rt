@@ -1,15 +1,13 @@
 // The stores of a record at the front of the bytes lent on, a function for each kind.
-use crate::Record;
 use whole::Whole;
 ghost use mathlib.Core.Path.{_≡_};
-ghost use mathlib.Core.Bool.{true};
 ghost use mathlib.Core.List.{_++_, [], _∷_};
 ghost use Prim.Native.Nat.{_+_, _≤_};
 ghost use lib.ListN.{length, drop, set};
 ghost use lib.Seq.{sets};
 ghost use lib.IntN.{pos, natAbs};
 ghost use Rattle.tape.specs.Bytes.{two, four, bytes, written};
-ghost use Rattle.tape.specs.Record.{bytesOf, goodRecord, bytesOfRecord};
+ghost use Rattle.tape.specs.Record.{bytesOf};
 
 // ---- a kind, and numbers, the high byte first
 fn put_kind(out: &mut [u8], kind: u8)
@@ -50,7 +48,7 @@ fn raw(elevation: Whole) -> u32
 }
 
 // ---- a record at the front of the bytes lent on
-fn put_row(out: &mut [u8], minute: u32, factor: u32)
+pub fn put_row(out: &mut [u8], minute: u32, factor: u32)
     requires { ⌜ 7 ≤ length (now out) ⌝ }
     ensures { λ r. ⌜ now (out .exit) ≡ bytesOf 5 (pos minute ∷ pos factor ∷ []) ++ drop 7 (now (out .entry)) ⌝ }
 {
@@ -59,7 +57,7 @@ fn put_row(out: &mut [u8], minute: u32, factor: u32)
     put_four(out, 3, factor);
 }
 
-fn put_project(out: &mut [u8], latitude: u32, elevation: Whole)
+pub fn put_project(out: &mut [u8], latitude: u32, elevation: Whole)
     requires { ⌜ 5 ≤ length (now out) ⌝ }
     requires { ⌜ natAbs (elevation .v) ≤ 20000 ⌝ }
     ensures { λ r. ⌜ now (out .exit) ≡ bytesOf 1 (pos latitude ∷ elevation .v ∷ []) ++ drop 5 (now (out .entry)) ⌝ }
@@ -70,7 +68,7 @@ fn put_project(out: &mut [u8], latitude: u32, elevation: Whole)
     put_two(out, 3, feet);
 }
 
-fn put_start(out: &mut [u8], northing: u32, easting: u32, mark: u32)
+pub fn put_start(out: &mut [u8], northing: u32, easting: u32, mark: u32)
     requires { ⌜ 13 ≤ length (now out) ⌝ }
     ensures { λ r. ⌜ now (out .exit) ≡ bytesOf 2 (pos northing ∷ pos easting ∷ pos mark ∷ []) ++ drop 13 (now (out .entry)) ⌝ }
 {
@@ -80,7 +78,7 @@ fn put_start(out: &mut [u8], northing: u32, easting: u32, mark: u32)
     put_four(out, 9, mark);
 }
 
-fn put_leg(out: &mut [u8], angle: u32, distance: u32)
+pub fn put_leg(out: &mut [u8], angle: u32, distance: u32)
     requires { ⌜ 9 ≤ length (now out) ⌝ }
     ensures { λ r. ⌜ now (out .exit) ≡ bytesOf 3 (pos angle ∷ pos distance ∷ []) ++ drop 9 (now (out .entry)) ⌝ }
 {
@@ -89,7 +87,7 @@ fn put_leg(out: &mut [u8], angle: u32, distance: u32)
     put_four(out, 5, distance);
 }
 
-fn put_close(out: &mut [u8], angle: u32, northing: u32, easting: u32, mark: u32)
+pub fn put_close(out: &mut [u8], angle: u32, northing: u32, easting: u32, mark: u32)
     requires { ⌜ 17 ≤ length (now out) ⌝ }
     ensures { λ r. ⌜ now (out .exit) ≡ bytesOf 4 (pos angle ∷ pos northing ∷ pos easting ∷ pos mark ∷ []) ++ drop 17 (now (out .entry)) ⌝ }
 {
@@ -98,29 +96,4 @@ fn put_close(out: &mut [u8], angle: u32, northing: u32, easting: u32, mark: u32)
     put_four(out, 5, northing);
     put_four(out, 9, easting);
     put_four(out, 13, mark);
-}
-
-pub fn put(out: &mut [u8], given: Record)
-    requires { ⌜ (length (bytesOfRecord given) ≤ length (now out)) × (goodRecord given ≡ true) ⌝ }
-    ensures { λ r. ⌜ now (out .exit) ≡ bytesOfRecord given ++ drop (length (bytesOfRecord given)) (now (out .entry)) ⌝ }
-{
-    match given {
-        Record::Row { minute, factor } => put_row(out, minute, factor),
-        Record::Project {
-            latitude,
-            elevation,
-        } => put_project(out, latitude, elevation),
-        Record::Start {
-            northing,
-            easting,
-            mark,
-        } => put_start(out, northing, easting, mark),
-        Record::Leg { angle, distance } => put_leg(out, angle, distance),
-        Record::Close {
-            angle,
-            northing,
-            easting,
-            mark,
-        } => put_close(out, angle, northing, easting, mark),
-    }
 }

@@ -1,9 +1,8 @@
 -- `write` meets its contract: the four ways out of a writer.
-use denote.Ref.{now}
 use borrow.Author.Needs.{needs}
-use Rattle.tape.proofs.Bodies.{length-given}
+use Rattle.tape.proofs.Bodies.{length-given, room-given}
 use Rattle.tape.proofs.Branch.{told-true}
-use Rattle.tape.proofs.Ways.{wrote, lent}
+use Rattle.tape.proofs.Ways.{wrote}
 use Rattle.tape.proofs.write.Statement.{statement}
 use Rattle.tape.proofs.write.Tie as tie
 
@@ -25,35 +24,23 @@ returns-2 c = search (wrote, length-given)
 good-requires : tie.Need-good-requires
 good-requires c κs = search needs
 
-sub-put : tie.Need-sub-put
-sub-put c = search needs
+lend-on-requires : tie.Need-lend-on-requires
+lend-on-requires c κs = (search room-given, search told-true)
 
-part-put-start : tie.Need-part-put-start
-part-put-start c = search needs
+add-t13 : tie.Need-add-t13
+add-t13 c = search needs
 
-part-put-end : tie.Need-part-put-end
-part-put-end c = search needs
-
-put-requires : tie.Need-put-requires
-put-requires c κs =
-    let d = c .before .before .before .before .before in
-    let s = d .before .before .before in
-    (lent (now (s .args .out)) (s .args .place) _ _ (length-given _ _ _ (d .before .kind .ensures) (d .body-len .ensures)) (search needs), search told-true)
-
-add-t12 : tie.Need-add-t12
-add-t12 c = search needs
-
-add-t15 : tie.Need-add-t15
-add-t15 c = search needs
+add-t14 : tie.Need-add-t14
+add-t14 c = search needs
 
 same-length : tie.Need-same-length
 same-length c = search needs
 
 returns-3 : tie.Need-returns-3
-returns-3 c = search (wrote, length-given)
+returns-3 c = search (wrote, length-given, room-given)
 
 returns-4 : tie.Need-returns-4
-returns-4 c = search (wrote, length-given)
+returns-4 c = search (wrote, room-given)
 
 pub write-spec : {M : Type 1} → statement M
 write-spec =
@@ -65,12 +52,9 @@ write-spec =
     sub-if2
     returns-2
     good-requires
-    sub-put
-    part-put-start
-    part-put-end
-    put-requires
-    add-t12
-    add-t15
+    lend-on-requires
+    add-t13
+    add-t14
     same-length
     returns-3
     returns-4)

@@ -4,7 +4,7 @@ use Prim.Native.Nat.{_-_, _≤_, _<_}
 use mathlib.Core.Path.{_≡_}
 use borrow.Author.Needs.{needs}
 use Rattle.desk.specs.Angles.{carried, balancedOf, filled}
-use Rattle.desk.proofs.Balancing.{angle-first, angle-next, carried-next, filled-next, filled-last, filled-turned}
+use Rattle.desk.proofs.Balancing.{angle-first, angle-next, carried-next, filled-next, filled-last}
 use Rattle.desk.proofs.angles.balance.Statement.{statement}
 use Rattle.desk.proofs.angles.balance.Tie as tie
 
@@ -52,7 +52,7 @@ loop-again : tie.Need-loop-again Inv-loop μ-loop
 loop-again c = (search needs, search carried-next, search needs, search filled-next)
 
 returns : tie.Need-returns Inv-loop μ-loop
-returns c = (search filled-last, search filled-turned)
+returns c = search filled-last
 
 pub balance-spec : {M : Type 1} → statement M
 balance-spec =

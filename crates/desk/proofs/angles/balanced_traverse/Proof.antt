@@ -1,6 +1,6 @@
--- `balanced_traverse` meets its contract: the azimuths and the factor are the ones asked for, and every range is one of the fields.
+-- `balanced_traverse` meets its contract: the azimuths and the factor are the ones asked for.
 use borrow.Author.Needs.{needs}
-use Rattle.desk.proofs.Balancing.{traverse-is, traverse-sound}
+use Rattle.desk.proofs.Balancing.{traverse-is}
 use Rattle.desk.proofs.angles.balanced_traverse.Statement.{statement}
 use Rattle.desk.proofs.angles.balanced_traverse.Tie as tie
 
@@ -11,7 +11,7 @@ combined-requires : tie.Need-combined-requires
 combined-requires c κs = search needs
 
 returns : tie.Need-returns
-returns c = (search traverse-is, search traverse-sound)
+returns c = search traverse-is
 
 pub balanced-traverse-spec : {M : Type 1} → statement M
 balanced-traverse-spec = tie.close (tie.spec balance-requires combined-requires returns)

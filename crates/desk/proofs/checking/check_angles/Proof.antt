@@ -1,6 +1,6 @@
 -- `check_angles` meets its contract: the test of the misclosure decides between the refusal and the balanced traverse.
 use borrow.Author.Needs.{needs}
-use Rattle.desk.proofs.Stepping.{checked-good, checked-bad, good-sounds}
+use Rattle.desk.proofs.Stepping.{checked-good, checked-bad}
 use Rattle.desk.proofs.checking.check_angles.Statement.{statement}
 use Rattle.desk.proofs.checking.check_angles.Tie as tie
 
@@ -14,13 +14,13 @@ balanced-traverse-requires : tie.Need-balanced-traverse-requires
 balanced-traverse-requires c κs = search needs
 
 returns : tie.Need-returns
-returns c = (search checked-good, search good-sounds)
+returns c = search checked-good
 
 refuse-requires : tie.Need-refuse-requires
 refuse-requires c κs = search needs
 
 returns-2 : tie.Need-returns-2
-returns-2 c = (search checked-bad, search needs)
+returns-2 c = search checked-bad
 
 pub check-angles-spec : {M : Type 1} → statement M
 check-angles-spec =

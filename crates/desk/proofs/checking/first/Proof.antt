@@ -20,10 +20,10 @@ check-angles-requires : tie.Need-check-angles-requires
 check-angles-requires c κs = search ready
 
 returns : tie.Need-returns
-returns c = (search first-refused, search needs)
+returns c = search first-refused
 
 returns-2 : tie.Need-returns-2
-returns-2 c = (search first-reads, search needs)
+returns-2 c = search first-reads
 
 pub first-spec : {M : Type 1} → statement M
 first-spec =

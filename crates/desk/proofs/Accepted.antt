@@ -1,0 +1,95 @@
+-- An answer whose number is 0 is an acceptance: there was room, the tape reads, and both tests were passed, since every refusal has a number above 0.
+-- So what the words hold then follows from the number alone: every station, the fixed points at both ends, and nothing changed behind.
+use Prim.Native.Nat.{ℕ, _+_, _*_, _≤_}
+use native.Mathlib.Omega.{arith}
+use mathlib.Core.Path.{_≡_, refl}
+use mathlib.Core.Bool.{true}
+use mathlib.Core.List.{List}
+use borrow.Author.Tests.{le-ltb, ltb-false}
+use lib.Dec.{ltb}
+use lib.ListN.{length, getD}
+use lib.IntN.{ℤ, pos}
+use Rattle.steps.specs.Azimuth.{closesAngles}
+use Rattle.steps.specs.Course.{Axis}
+use Rattle.tape.specs.declared.Reading.{Reading}
+use Rattle.tape.specs.declared.Reading.the-variants as reading
+use Rattle.tape.specs.Tape.{readingOf}
+use Rattle.tape.specs.Fields.{fieldsOf, DoesRead}
+use Rattle.tape.proofs.Branch.{by-test}
+use Rattle.tape.proofs.Refusals.{reading-number}
+use Rattle.desk.specs.declared.Balanced.{Balanced}
+use Rattle.desk.specs.declared.First.{First}
+use Rattle.desk.specs.Angles.{misclosureOf, balancedTraverse}
+use Rattle.desk.specs.Answer.{Told, firstIf, firstOf, checkedAngles, closesOn, second, secondWords, afterFirst, traversed, traversedWords}
+use Rattle.desk.specs.Inside.{Sound}
+use Rattle.desk.specs.Line.{adjusted}
+use Rattle.desk.specs.Traverse.{along, line, at, placed}
+use Rattle.desk.proofs.Balancing.{sound-of}
+use Rattle.desk.proofs.Stepping.{tape-ready}
+use Rattle.desk.proofs.Words.{word-at, words-later, first-word, last-word}
+
+-- the traverse of a tape, its angles balanced
+abbrev pub balancedTape : List ℕ → Balanced
+balancedTape tape = balancedTraverse (fieldsOf tape)
+
+-- what a tape has shown that is accepted with that many words
+pub record Accepted (tape : List ℕ) (room : ℕ) : Type 0 where
+  pub wide : 130 ≤ room
+  pub reads : DoesRead tape
+  pub angles : closesAngles (misclosureOf (fieldsOf tape)) (fieldsOf tape .legs) ≡ true
+  pub closes : closesOn (balancedTape tape) ≡ true
+
+module _ (tape : List ℕ) (room : ℕ) where
+  abbrev Shown : Told → Type 0
+  Shown t = t .number ≡ 0 → Accepted tape room
+
+  pub accepted : Shown (traversed tape room)
+  unfolding traversed firstOf checkedAngles second
+  accepted = by-test Shown (ltb room 130) (λ few e. absurd (omega arith)) (λ wide. go (readingOf tape) refl (ltb-false room 130 wide))
+    where
+      go : (r : Reading) → readingOf tape ≡ r → 130 ≤ room → Shown (afterFirst (firstIf r (fieldsOf tape) .checked) (firstIf r (fieldsOf tape) .balanced))
+      go (reading.Refused n p) h wide = λ e. absurd (omega (arith, reading-number tape n p h .0))
+      go (reading.Reads st) h wide =
+          by-test (λ (x : First). Shown (afterFirst (x .checked) (x .balanced))) (closesAngles (misclosureOf (fieldsOf tape)) (fieldsOf tape .legs))
+          (λ a.
+          by-test Shown (closesOn (balancedTape tape)) (λ c e. record { wide = wide; reads = record { last = st; reads = h }; angles = a; closes = c })
+          (λ c e. absurd (omega arith)))
+          (λ a e. absurd (omega arith))
+
+  -- and the answer is that of the second step
+  pub accepted-told : Accepted tape room → traversed tape room ≡ second (balancedTape tape)
+  unfolding traversed firstOf checkedAngles
+  accepted-told a = rw (le-ltb room 130 (a .wide), a .reads .reads, a .angles)
+
+  pub accepted-sound : Accepted tape room → Sound (balancedTape tape)
+  accepted-sound a = sound-of (fieldsOf tape) (tape-ready tape (a .reads))
+
+-- ---- the words of an answer whose number is 0
+module _ (tape : List ℕ) (words : List ℤ) (e : traversed tape (length words) .number ≡ 0) where
+  abbrev b : Balanced
+  b = balancedTape tape
+
+  a : Accepted tape (length words)
+  a = accepted tape (length words) e
+
+  sound : Sound b
+  sound = accepted-sound tape (length words) a
+
+  pub accepted-words : traversedWords tape words ≡ placed b (b .legs + 1) words
+  unfolding traversedWords firstOf checkedAngles secondWords
+  accepted-words = rw (le-ltb (length words) 130 (a .wide), a .reads .reads, a .angles, a .closes)
+
+  pub station : (axis : Axis) (k : ℕ) → k ≤ b .legs → getD (traversedWords tape words) (at axis k) (pos 0) ≡ adjusted (line axis b) k
+  station axis k h = rw accepted-words (word-at b words axis (b .legs + 1) k (omega arith) (omega (arith, sound .few, a .wide)))
+
+  pub first-station : (axis : Axis) → getD (traversedWords tape words) (at axis 0) (pos 0) ≡ pos (along axis (fieldsOf tape .from))
+  unfolding balancedTraverse
+  first-station axis = rw accepted-words (first-word b words sound (a .wide) axis)
+
+  pub last-station : (axis : Axis) → getD (traversedWords tape words) (at axis (fieldsOf tape .legs)) (pos 0) ≡ pos (along axis (fieldsOf tape .to))
+  unfolding balancedTraverse
+  last-station axis = rw accepted-words (last-word b words sound (a .wide) axis)
+
+  pub later-words : (i : ℕ) → 2 * (fieldsOf tape .legs + 1) ≤ i → getD (traversedWords tape words) i (pos 0) ≡ getD words i (pos 0)
+  unfolding balancedTraverse
+  later-words i h = rw accepted-words (words-later b words (b .legs + 1) i h)

@@ -1,0 +1,151 @@
+-- An accepted tape's answer depends on its fields alone, and so do the words of any tape that reads. The place of the close, which the desk keeps for its
+-- refusals, is no field: with another place all definitions that an acceptance uses have the same values.
+use Prim.Native.Nat.{ℕ, zero, suc, _+_}
+use mathlib.Core.Path.{_≡_, refl, sym, _∙_, ap}
+use mathlib.Core.Bool.{Bool, true, false, cond}
+use mathlib.Core.List.{List}
+use lib.IntN.{ℤ}
+use Rattle.steps.specs.Azimuth.{closesAngles, onward}
+use Rattle.tape.specs.declared.Fields.{Fields}
+use Rattle.tape.specs.Fields.{fieldsOf, DoesRead}
+use Rattle.desk.specs.declared.Balanced.{Balanced}
+use Rattle.desk.specs.declared.Checked.the-variants.{Good}
+use Rattle.desk.specs.Angles.{angleAt, carried, misclosureOf, balancedOf, filled, zeros, balancedTraverse}
+use Rattle.desk.specs.Answer.{refusedFirst, checkedAngles, firstOf, closesOn, second, secondWords, traversed, wordsAfterFirst, traversedWords}
+use Rattle.desk.specs.Traverse.{placed, offsetsTo, areaOf}
+use Rattle.desk.proofs.Accepted.{Accepted, accepted, accepted-told}
+
+-- the fields of a tape, the place of its close put aside
+abbrev pub bare : Fields → Fields
+bare f =
+    record {
+      legs = f .legs;
+      angles = f .angles;
+      distances = f .distances;
+      latitude = f .latitude;
+      elevation = f .elevation;
+      scale = f .scale;
+      from = f .from;
+      mark = f .mark;
+      to = f .to;
+      given = f .given;
+      place = 0;
+    }
+
+abbrev bareTraverse : Balanced → Balanced
+bareTraverse b =
+    record {
+      legs = b .legs;
+      w = b .w;
+      azimuths = b .azimuths;
+      distances = b .distances;
+      factor = b .factor;
+      from = b .from;
+      to = b .to;
+      place = 0;
+    }
+
+-- ---- the first step
+module _ (f : Fields) where
+  carried-bare : (k : ℕ) → carried f k ≡ carried (bare f) k
+  unfolding carried
+  carried-bare zero = refl
+  carried-bare (suc k) = ap (λ (a : ℕ). onward a (angleAt f (suc k))) (carried-bare k)
+
+  misclosure-bare : misclosureOf f ≡ misclosureOf (bare f)
+  unfolding misclosureOf
+  misclosure-bare = rw (carried-bare (f .legs))
+
+  filled-bare : (n : ℕ) → filled (balancedOf f) n zeros ≡ filled (balancedOf (bare f)) n zeros
+  unfolding filled balancedOf
+  filled-bare zero = refl
+  filled-bare (suc n) = rw (filled-bare n, carried-bare n, misclosure-bare)
+
+  traverse-bare : bareTraverse (balancedTraverse f) ≡ balancedTraverse (bare f)
+  unfolding balancedTraverse
+  traverse-bare = rw (misclosure-bare, filled-bare (f .legs))
+
+  angles-bare : closesAngles (misclosureOf f) (f .legs) ≡ closesAngles (misclosureOf (bare f)) (f .legs)
+  angles-bare = rw misclosure-bare
+
+-- ---- the second step
+module _ (b : Balanced) where
+  placed-bare : (k : ℕ) (words : List ℤ) → placed b k words ≡ placed (bareTraverse b) k words
+  unfolding placed
+  placed-bare zero words = refl
+  placed-bare (suc k) words = rw (placed-bare k words)
+
+  offsets-bare : (k : ℕ) → offsetsTo b k ≡ offsetsTo (bareTraverse b) k
+  unfolding offsetsTo
+  offsets-bare zero = refl
+  offsets-bare (suc k) = rw (offsets-bare k)
+
+  same-test : closesOn (bareTraverse b) ≡ closesOn b
+  unfolding closesOn
+  same-test = refl
+
+  same-second : closesOn b ≡ true → second b ≡ second (bareTraverse b)
+  unfolding second areaOf
+  same-second h = rw (same-test, h, offsets-bare (b .legs))
+
+  same-words : (words : List ℤ) → secondWords b words ≡ secondWords (bareTraverse b) words
+  unfolding secondWords
+  same-words words = rw (same-test, placed-bare (b .legs + 1) words)
+
+module _ (f : Fields) where
+  abbrev b : Balanced
+  b = balancedTraverse f
+
+  closes-bare : closesOn b ≡ closesOn (balancedTraverse (bare f))
+  closes-bare = sym (same-test b) ∙ ap closesOn (traverse-bare f)
+
+  second-bare : closesOn b ≡ true → second b ≡ second (balancedTraverse (bare f))
+  second-bare h = same-second b h ∙ ap second (traverse-bare f)
+
+  words-bare : (words : List ℤ) → secondWords b words ≡ secondWords (balancedTraverse (bare f)) words
+  words-bare words = same-words b words ∙ ap (λ (x : Balanced). secondWords x words) (traverse-bare f)
+
+  -- the words, from the fields
+  abbrev wordsFrom : List ℤ → List ℤ
+  wordsFrom words = cond (closesAngles (misclosureOf f) (f .legs)) (secondWords b words) words
+
+  words-from : (words : List ℤ) → wordsAfterFirst (checkedAngles f .checked) (checkedAngles f .balanced) words ≡ wordsFrom words
+  unfolding checkedAngles
+  words-from words = go (closesAngles (misclosureOf f) (f .legs))
+    where
+      go : (x : Bool) → (let a = cond x (record { checked = Good; balanced = b }) (refusedFirst 8 (f .place)) in wordsAfterFirst (a .checked) (a .balanced) words)
+          ≡ cond x (secondWords b words) words
+      go true = refl
+      go false = refl
+
+-- ---- two tapes that read, with the same fields
+module _ (s t : List ℕ) (a : DoesRead s) (b : DoesRead t) (same : bare (fieldsOf s) ≡ bare (fieldsOf t)) where
+  abbrev f : Fields
+  f = fieldsOf s
+
+  abbrev g : Fields
+  g = fieldsOf t
+
+  by-bare : {A : Type 0} (h : Fields → A) → h f ≡ h (bare f) → h g ≡ h (bare g) → h f ≡ h g
+  by-bare h i j = i ∙ ap h same ∙ sym j
+
+  both : (room : ℕ) → Accepted s room → Accepted t room
+  both room x =
+      record {
+        wide = x .wide;
+        reads = b;
+        angles = sym (by-bare (λ u. closesAngles (misclosureOf u) (u .legs)) (angles-bare f) (angles-bare g)) ∙ x .angles;
+        closes = sym (by-bare (λ u. closesOn (balancedTraverse u)) (closes-bare f) (closes-bare g)) ∙ x .closes;
+      }
+
+  pub fields-alone : (room : ℕ) → traversed s room .number ≡ 0 → traversed s room ≡ traversed t room
+  fields-alone room e =
+      let x = accepted s room e in
+      let y = both room x in
+      accepted-told s room x ∙ by-bare (λ u. second (balancedTraverse u)) (second-bare f (x .closes)) (second-bare g (y .closes)) ∙ sym (accepted-told t room y)
+
+  pub fields-alone-words : (words : List ℤ) → traversedWords s words ≡ traversedWords t words
+  unfolding traversedWords firstOf
+  fields-alone-words words =
+      let h = by-bare (λ u. wordsFrom u words) (rw (angles-bare f, words-bare f words)) (rw (angles-bare g, words-bare g words)) in
+      rw (a .reads, b .reads, words-from f words, words-from g words, h)
