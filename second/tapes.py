@@ -151,13 +151,18 @@ def moved(chance: Random, fields: Fields, way: desk.Point) -> Fields:
     )
 
 
-def line(chance: Random) -> Fields:
-    """A random walk, closed on a point that leaves a chosen closure."""
-    n = leg_count(chance, least=1)
-    fields = occupied(chance, [azimuth(chance) for _ in range(n)], distances(chance, n))
+def walk(chance: Random, azimuths: Sequence[int], measured: Sequence[int]) -> Fields:
+    """A walk along these legs, closed on a point that leaves a chosen closure."""
+    fields = occupied(chance, azimuths, measured)
     grid = desk.grid_distances(fields)
     carried_to = desk.preliminary(fields, grid)[-1]
     return moved(chance, fields, carried_to.less(closure(chance, sum(grid))))
+
+
+def line(chance: Random) -> Fields:
+    """A random walk of any number of legs."""
+    n = leg_count(chance, least=1)
+    return walk(chance, [azimuth(chance) for _ in range(n)], distances(chance, n))
 
 
 def ring(chance: Random) -> tuple[list[int], list[int]]:
