@@ -1,6 +1,7 @@
 -- An answer whose number is 0 is an acceptance: there was room, the tape reads, and both tests were passed, since every refusal has a number above 0.
--- So what the words hold then follows from the number alone: every station, the fixed points at both ends, and nothing changed behind.
-use Prim.Native.Nat.{ℕ, _+_, _*_, _≤_}
+-- So what is told and what the words hold then follow from the number alone: small numbers, every station, the fixed points at both ends, and nothing
+-- changed behind.
+use Prim.Native.Nat.{ℕ, _+_, _*_, _^_, _≤_, _<_}
 use native.Mathlib.Omega.{arith}
 use mathlib.Core.Path.{_≡_, refl}
 use mathlib.Core.Bool.{true}
@@ -8,9 +9,10 @@ use mathlib.Core.List.{List}
 use borrow.Author.Tests.{le-ltb, ltb-false}
 use lib.Dec.{ltb}
 use lib.ListN.{length, getD}
-use lib.IntN.{ℤ, pos}
-use Rattle.steps.specs.Azimuth.{closesAngles}
-use Rattle.steps.specs.Course.{Axis}
+use lib.IntN.{ℤ, pos, natAbs}
+use Rattle.steps.specs.Azimuth.{halfCircle, closesAngles}
+use Rattle.steps.specs.Course.{Axis, north, east}
+use Rattle.steps.proofs.Rooting.{precision-most}
 use Rattle.tape.specs.declared.Reading.{Reading}
 use Rattle.tape.specs.declared.Reading.the-variants as reading
 use Rattle.tape.specs.Tape.{readingOf}
@@ -19,12 +21,14 @@ use Rattle.tape.proofs.Branch.{by-test}
 use Rattle.tape.proofs.Refusals.{reading-number}
 use Rattle.desk.specs.declared.Balanced.{Balanced}
 use Rattle.desk.specs.declared.First.{First}
-use Rattle.desk.specs.Angles.{misclosureOf, balancedTraverse}
-use Rattle.desk.specs.Answer.{Told, firstIf, firstOf, checkedAngles, closesOn, second, secondWords, afterFirst, traversed, traversedWords}
+use Rattle.desk.specs.Angles.{carried, misclosureOf, balancedTraverse}
+use Rattle.desk.specs.Answer.{Told, firstIf, firstOf, checkedAngles, northClosure, eastClosure, distanceRun, closesOn, second, secondWords, afterFirst, traversed, traversedWords}
 use Rattle.desk.specs.Inside.{Sound}
 use Rattle.desk.specs.Line.{adjusted}
 use Rattle.desk.specs.Traverse.{along, line, at, placed}
-use Rattle.desk.proofs.Balancing.{sound-of}
+use Rattle.desk.proofs.Balancing.{misclosure-most, sound-of}
+use Rattle.desk.proofs.Looping.{place-small, area-most}
+use Rattle.desk.proofs.Settling.{run-small, closes-near}
 use Rattle.desk.proofs.Stepping.{tape-ready}
 use Rattle.desk.proofs.Words.{word-at, words-later, first-word, last-word}
 
@@ -38,6 +42,15 @@ pub record Accepted (tape : List ℕ) (room : ℕ) : Type 0 where
   pub reads : DoesRead tape
   pub angles : closesAngles (misclosureOf (fieldsOf tape)) (fieldsOf tape .legs) ≡ true
   pub closes : closesOn (balancedTape tape) ≡ true
+
+-- what each number that it is told is at most
+pub record Sized (t : Told) : Type 0 where
+  pub legs : t .legs ≤ 64
+  pub w : natAbs (t .w) ≤ halfCircle
+  pub north : natAbs (t .north) ≤ 26000
+  pub east : natAbs (t .east) ≤ 26000
+  pub precision : t .precision ≤ 1300000000
+  pub area : natAbs (t .area) ≤ 64 * 33800000000000000
 
 module _ (tape : List ℕ) (room : ℕ) where
   abbrev Shown : Told → Type 0
@@ -56,13 +69,50 @@ module _ (tape : List ℕ) (room : ℕ) where
           (λ c e. absurd (omega arith)))
           (λ a e. absurd (omega arith))
 
+  -- no number is above 9
+  abbrev Nine : Told → Type 0
+  Nine t = t .number ≤ 9
+
+  pub number-most : Nine (traversed tape room)
+  unfolding traversed firstOf checkedAngles second
+  number-most = by-test Nine (ltb room 130) (λ few. omega arith) (λ wide. go (readingOf tape) refl)
+    where
+      go : (r : Reading) → readingOf tape ≡ r → Nine (afterFirst (firstIf r (fieldsOf tape) .checked) (firstIf r (fieldsOf tape) .balanced))
+      go (reading.Refused n p) h = omega (arith, reading-number tape n p h .1)
+      go (reading.Reads st) h =
+          by-test (λ (x : First). Nine (afterFirst (x .checked) (x .balanced))) (closesAngles (misclosureOf (fieldsOf tape)) (fieldsOf tape .legs))
+          (λ a. by-test Nine (closesOn (balancedTape tape)) (λ c. omega arith) (λ c. omega arith)) (λ a. omega arith)
+
   -- and the answer is that of the second step
   pub accepted-told : Accepted tape room → traversed tape room ≡ second (balancedTape tape)
   unfolding traversed firstOf checkedAngles
   accepted-told a = rw (le-ltb room 130 (a .wide), a .reads .reads, a .angles)
 
+  pub accepted-legs : Accepted tape room → traversed tape room .legs ≡ balancedTape tape .legs
+  unfolding second
+  accepted-legs a = rw (accepted-told a, a .closes)
+
   pub accepted-sound : Accepted tape room → Sound (balancedTape tape)
   accepted-sound a = sound-of (fieldsOf tape) (tape-ready tape (a .reads))
+
+  pub accepted-sized : Accepted tape room → Sized (traversed tape room)
+  unfolding second balancedTraverse misclosureOf
+  accepted-sized a =
+      let b = balancedTape tape in
+      let f = fieldsOf tape in
+      let sound = accepted-sound a in
+      let n = closes-near b sound north (a .closes) in
+      let e = closes-near b sound east (a .closes) in
+      let run = run-small b sound in
+      rw (accepted-told a, a .closes)
+      (record {
+        legs = sound .few;
+        w = misclosure-most (carried f (f .legs)) (f .given);
+        north = n;
+        east = e;
+        precision = omega (arith, precision-most (northClosure b) (eastClosure b) (distanceRun b) (omega arith));
+        area = area-most b sound n e;
+      })
 
 -- ---- the words of an answer whose number is 0
 module _ (tape : List ℕ) (words : List ℤ) (e : traversed tape (length words) .number ≡ 0) where
@@ -81,6 +131,9 @@ module _ (tape : List ℕ) (words : List ℤ) (e : traversed tape (length words)
 
   pub station : (axis : Axis) (k : ℕ) → k ≤ b .legs → getD (traversedWords tape words) (at axis k) (pos 0) ≡ adjusted (line axis b) k
   station axis k h = rw accepted-words (word-at b words axis (b .legs + 1) k (omega arith) (omega (arith, sound .few, a .wide)))
+
+  pub word-small : (axis : Axis) (k : ℕ) → k ≤ b .legs → natAbs (getD (traversedWords tape words) (at axis k) (pos 0)) < 2 ^ 40
+  word-small axis k h = place-small b sound axis k (closes-near b sound axis (a .closes)) h _ (station axis k h)
 
   pub first-station : (axis : Axis) → getD (traversedWords tape words) (at axis 0) (pos 0) ≡ pos (along axis (fieldsOf tape .from))
   unfolding balancedTraverse

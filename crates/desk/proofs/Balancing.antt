@@ -42,7 +42,7 @@ module _ (r : Count) (n a b x : ℕ) (e : toldCount r ≡ ofAngles a b (pos (x %
   azimuth-turned = rw azimuth-is (mod-lt x (omega arith))
 
 -- ---- the misclosure
-misclosure-most : (carried given : ℕ) → natAbs (misclosure carried given) ≤ halfCircle
+pub misclosure-most : (carried given : ℕ) → natAbs (misclosure carried given) ≤ halfCircle
 misclosure-most carried given = let m = misclosure-is carried given in sized (misclosure carried given) (m .above) (m .most)
   where
     sized : (w : ℤ) → negℤ (pos halfCircle) <ᶻ w → w ≤ᶻ pos halfCircle → natAbs w ≤ halfCircle

@@ -18,7 +18,9 @@ use Rattle.answer.specs.Told.{told}
 use Rattle.answer.proofs.Telling.{value-given, both, inside-yes}
 use Rattle.steps.specs.Area.{small, areaStep}
 use Rattle.steps.specs.Course.{Axis, north, east}
+use Rattle.steps.proofs.Areas.{doubled-most}
 use Rattle.steps.proofs.Sharing.{share-most}
+use Rattle.tape.proofs.Branch.{by-test}
 use Rattle.desk.specs.Line.{run, runAll, preliminary, closure, shareAt, adjusted}
 use Rattle.desk.specs.Traverse.{along, longOf, line, offset, offsetsTo, isLoop, areaOf}
 use Rattle.desk.specs.Inside.{Sound, Written}
@@ -92,7 +94,7 @@ module _ (b : Balanced) (sound : Sound b) where
     offset-small : natAbs (offset b axis k) ≤ 130000000
     offset-small = rw (first-fixed (line axis b) (far-run b sound)) place-drift
 
-    place-small : (z : ℤ) → z ≡ adjusted (line axis b) k → natAbs z < 2 ^ 40
+    pub place-small : (z : ℤ) → z ≡ adjusted (line axis b) k → natAbs z < 2 ^ 40
     place-small z e =
         rw e (omega (arith, near-most (adjusted (line axis b) k) (along axis (b .from)) 130000000 place-drift, sound .from axis))
 
@@ -138,3 +140,10 @@ module _ (b : Balanced) (sound : Sound b) where
         let count = inside-yes 2 128 (length (offsetsTo b n)) (omega (arith, m, sound .some)) (omega (arith, m, sound .few)) in
         let even = eq-eqb (length (offsetsTo b n) % 2) 0 (omega (arith, m)) in
         rw (← e, f) (g ∙ value-given (told r) _ _ s (both _ _ (both _ _ count even) (offsets-small n (omega arith))))
+
+    pub area-most : natAbs (areaOf b) ≤ 64 * 33800000000000000
+    unfolding areaOf
+    area-most =
+        let l = offsetsTo b (b .legs) in
+        by-test (λ (z : ℤ). natAbs z ≤ 64 * 33800000000000000) (isLoop b)
+        (λ e. omega (arith, doubled-most l (offsets-small (b .legs) (omega arith)), offsets-length b (b .legs), sound .few)) (λ e. omega arith)

@@ -2,9 +2,9 @@
 -- definitions. The tape is read, checked, balanced, run, closed and adjusted by them; no code is run.
 use mathlib.Core.Path.{_≡_, refl}
 use mathlib.Core.Bool.{true}
-use mathlib.Core.List.{List, [], _∷_}
-use lib.ListN.{replicate, take}
-use lib.IntN.{pos, negℤ}
+use mathlib.Core.List.{List, [], _∷_, _++_}
+use lib.ListN.{replicate}
+use lib.IntN.{ℤ, pos, negℤ}
 use Rattle.whole.specs.Nearest.{nearest}
 use Rattle.whole.specs.Sum.{sumTo}
 use Rattle.sines.specs.Exact.{exactSine, exactQuarter, bySeries, series, weight, unity, straight, pi, factorial}
@@ -24,10 +24,10 @@ use Rattle.tape.specs.Fields.{fieldsOf as named}
 use Rattle.desk.specs.Line.{run, preliminary, adjusted}
 use Rattle.desk.specs.Traverse.{placed, offsetsTo, areaOf}
 use Rattle.desk.specs.Angles.{carried, misclosureOf, balancedOf, filled, balancedTraverse}
-use Rattle.desk.specs.Answer.{checkedAngles, firstOf, closesOn, second, secondWords, traversed, traversedWords}
+use Rattle.desk.specs.Answer.{Told, checkedAngles, firstOf, closesOn, second, secondWords, traversed, traversedWords}
 
 -- two rows, the project, the start, four legs of a square, and the close on the same point, half a second off
-abbrev records : List Rec
+abbrev pub records : List Rec
 records =
     rec 5 (pos 2650 ∷ pos 10000572 ∷ [])
     ∷ rec 5 (pos 2651 ∷ pos 10000528 ∷ [])
@@ -41,13 +41,17 @@ records =
     ∷ []
 
 -- W=+0.5 N=-0.01 E=+0.02 P=178886, and AREA2 2000020.0000
-pub printed-told : traversed (tapeOf records) 130
-    ≡ record { number = 0; place = 0; legs = 4; w = pos 5; north = negℤ (pos 1); east = pos 2; precision = 178886; area = pos 20000200000; loop = true }
+abbrev pub answer : Told
+answer = record { number = 0; place = 0; legs = 4; w = pos 5; north = negℤ (pos 1); east = pos 2; precision = 178886; area = pos 20000200000; loop = true }
+
+pub printed-told : traversed (tapeOf records) 130 ≡ answer
 unfolding nearest sumTo exactSine exactQuarter bySeries series weight unity straight pi factorial around turned folded entry between quarterBy sineOf cross nextStation doubledTo turn misclosure closesAngles balanced closes root precision move sineAlong seaLevel combine grid share num bytes meant written table fieldsOf bodyOf numbersOf goodOf bytesOf mayCome roomOf rowNext projectNext afterOf takeOf judge stepOf walk readingOf recordsFrom tapeOf nothing putIn gathered isRow scaleOf named run preliminary adjusted placed offsetsTo areaOf carried misclosureOf balancedOf filled balancedTraverse checkedAngles firstOf closesOn second traversed
 printed-told = refl
 
--- the five stations
-pub printed-words : take 10 (traversedWords (tapeOf records) (replicate 130 (pos 7)))
-    ≡ pos 5000000 ∷ pos 200000000 ∷ pos 5100000 ∷ pos 200000000 ∷ pos 5100001 ∷ pos 200100001 ∷ pos 5000000 ∷ pos 200100000 ∷ pos 5000000 ∷ pos 200000000 ∷ []
+-- the five stations, and behind them the words as they were lent
+abbrev pub stations : List ℤ
+stations = pos 5000000 ∷ pos 200000000 ∷ pos 5100000 ∷ pos 200000000 ∷ pos 5100001 ∷ pos 200100001 ∷ pos 5000000 ∷ pos 200100000 ∷ pos 5000000 ∷ pos 200000000 ∷ []
+
+pub printed-words : (z : ℤ) → traversedWords (tapeOf records) (replicate 130 z) ≡ stations ++ replicate 120 z
 unfolding nearest sumTo exactSine exactQuarter bySeries series weight unity straight pi factorial around turned folded entry between quarterBy sineOf turn misclosure closesAngles balanced closes move sineAlong seaLevel combine grid share num bytes meant written table fieldsOf bodyOf numbersOf goodOf bytesOf mayCome roomOf rowNext projectNext afterOf takeOf judge stepOf walk readingOf recordsFrom tapeOf nothing putIn gathered isRow scaleOf named run preliminary adjusted placed carried misclosureOf balancedOf filled balancedTraverse checkedAngles firstOf closesOn secondWords traversedWords
-printed-words = refl
+printed-words z = refl

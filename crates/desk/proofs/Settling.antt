@@ -24,7 +24,7 @@ use Rattle.steps.specs.Distance.{grid}
 use Rattle.steps.specs.Share.{share, shareStep}
 use Rattle.desk.specs.Line.{run, preliminary, closure, adjusted}
 use Rattle.desk.specs.Traverse.{along, longOf, line, placed, isLoop, areaOf}
-use Rattle.desk.specs.Answer.{told, refused, closesOn, second, secondWords}
+use Rattle.desk.specs.Answer.{told, refused, northClosure, eastClosure, distanceRun, closesOn, second, secondWords}
 use Rattle.desk.specs.Inside.{Sound, Small, Stands, none, Ran, Closing}
 use Rattle.whole.specs.declared.Whole.{Whole}
 use Rattle.desk.specs.declared.Answer.the-variants.{Adjusted}
@@ -93,6 +93,15 @@ module _ (b : Balanced) (sound : Sound b) where
   unfolding run
   far-run = let leg = sound .leg 0 (omega (arith, sound .some)) in omega (arith, run-up (longOf b) 1 (b .legs) (sound .some), grid-least _ _ (leg .far) (leg .least))
 
+  pub run-small : run (longOf b) (b .legs) ≤ 1300000000
+  run-small = omega (arith, run-most b sound (b .legs) (omega arith), sound .few)
+
+  -- a traverse that passes the test
+  pub closes-near : (axis : Axis) → closesOn b ≡ true → natAbs (closure (line axis b)) ≤ 26000
+  unfolding closesOn
+  closes-near north e = north-near (closesOn b) (northClosure b) (eastClosure b) (distanceRun b) refl e run-small
+  closes-near east e = east-near (closesOn b) (northClosure b) (eastClosure b) (distanceRun b) refl e run-small
+
   -- a closure is the way from start to end, less that from start to fixed end
   closure-small : (axis : Axis) → natAbs (closure (line axis b)) ≤ 1200000000
   closure-small axis =
@@ -114,7 +123,7 @@ module _ (b : Balanced) (sound : Sound b) where
         run = t ∙ s .run;
         small-north = rw u (closure-small north);
         small-east = rw v (closure-small east);
-        small-run = rw (t, s .run) (omega (arith, run-most b sound (b .legs) (omega arith), sound .few));
+        small-run = rw (t ∙ s .run) run-small;
         far = rw (t ∙ s .run) far-run;
       }
 

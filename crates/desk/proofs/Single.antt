@@ -2,7 +2,6 @@
 -- by an adjusted traverse alone, since an accepted tape has a leg and a refusal tells none.
 use Prim.Native.Nat.{ℕ, _≤_}
 use native.Mathlib.Omega.{arith}
-use native.Mathlib.Decide.{ℕ-discrete}
 use mathlib.Core.Path.{_≡_, sym, _∙_, ap}
 use mathlib.Core.Bool.{cond}
 use mathlib.Core.List.{List}
@@ -27,13 +26,13 @@ module _ (tape : List ℕ) (room : ℕ) where
   unfolding second
   some-leg e = let a = accepted tape room e in rw (accepted-told tape room a, a .closes) (accepted-sound tape room a .some)
 
+  -- so no refusal has the number 0
+  pub refused-some : (n p : ℕ) → told (Refused n p) ≡ traversed tape room → n ≡ 0 → ⊥
+  refused-some n p h z = omega (arith, some-leg (ap (λ (t : Told). t .number) (sym h) ∙ z), ap (λ (t : Told). t .legs) h)
+
   one-answer : (x : Answer) → told x ≡ traversed tape room → x ≡ telling (traversed tape room)
   one-answer (Adjusted legs w n e p area loop) h = ap telling h
-  one-answer (Refused n p) h =
-      elim (ℕ-discrete n 0) [
-        | yes z ↦ absurd (omega (arith, some-leg (ap (λ (t : Told). t .number) (sym h) ∙ z), ap (λ (t : Told). t .legs) h))
-        | no z ↦ rw (← h, ne-eqb n 0 z)
-      ]
+  one-answer (Refused n p) h = rw (← h, ne-eqb n 0 (refused-some n p h))
 
 pub traverse-single : (tape : List ℕ) (words l m : List ℤ) (x y : Answer)
     → told x ≡ traversed tape (length words) → l ≡ traversedWords tape words → told y ≡ traversed tape (length words) → m ≡ traversedWords tape words

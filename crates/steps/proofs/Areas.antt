@@ -1,19 +1,20 @@
--- The sum round the stations: the tests of the offsets, the size of a cross product, and the sum as the loop builds it.
+-- The sum round the stations: the tests of the offsets, the size of a cross product and of the sum, and the sum as the loop builds it.
 use mathlib.Core.Path.{_≡_, refl, sym, _∙_, ap}
 use mathlib.Core.Bool.{Bool, true, false, _&&_}
 use mathlib.Core.List.{List, [], _∷_}
 use Prim.Native.Nat.{ℕ, zero, suc, _+_, _*_, _/_, _%_, _≤_, _<_}
-use native.Mathlib.Nat.{le-of-suc-le-suc, not-suc-le-zero}
+use native.Mathlib.Nat.{le-of-suc-le-suc, not-suc-le-zero, mod-lt}
 use native.Mathlib.Numerals.{add-one}
 use native.Mathlib.Omega.{arith}
 use borrow.Author.Tests.{le-leb, lt-leb, leb-true}
 use lib.Dec.{leb}
 use lib.ListN.{length, getD, drop, drop-of-length-le}
 use lib.Seq.{drop-cons}
-use lib.IntN.{ℤ, pos, natAbs, _+ℤ_, _*ℤ_}
-use Rattle.whole.proofs.Laws.{abs-mul}
+use lib.IntN.{ℤ, pos, natAbs, _+ℤ_, _-ℤ_, _*ℤ_}
+use Rattle.whole.proofs.Laws.{abs-mul, triangle-sub}
+use Rattle.whole.proofs.Sums.{sumTo-size}
 use Rattle.whole.specs.Sum.{sumTo}
-use Rattle.steps.specs.Area.{cross, nextStation, doubledTo, doubled, small}
+use Rattle.steps.specs.Area.{northing, easting, stations, cross, nextStation, doubledTo, doubled, small}
 use Rattle.steps.proofs.Laws.{product-most}
 
 -- ---- the test of the offsets, from the i-th on
@@ -46,6 +47,22 @@ small-end l i h e = sym (ap small (drop-of-length-le l h)) ∙ e
 pub cross-size : (n : ℕ) (p q a b c d : ℤ) → n ≤ natAbs p + natAbs q → p ≡ a *ℤ b → q ≡ c *ℤ d → natAbs a ≤ 130000000 → natAbs b ≤ 130000000 → natAbs c ≤ 130000000 → natAbs d ≤ 130000000 → n ≤ 33800000000000000
 cross-size n p q a b c d h f g s t u v =
     omega (arith, ap natAbs f ∙ abs-mul a b, ap natAbs g ∙ abs-mul c d, product-most (natAbs a) (natAbs b) 130000000 130000000 s t, product-most (natAbs c) (natAbs d) 130000000 130000000 u v)
+
+module _ (l : List ℤ) (e : small l ≡ true) where
+  cross-most : (i j : ℕ) → i < stations l → j < stations l → natAbs (cross l i j) ≤ 33800000000000000
+  unfolding cross
+  cross-most i j h k =
+      let p = northing l i *ℤ easting l j in
+      let q = northing l j *ℤ easting l i in
+      cross-size (natAbs (p -ℤ q)) p q (northing l i) (easting l j) (northing l j) (easting l i) (triangle-sub p q) refl refl
+      (small-at l (2 * i) e (omega arith)) (small-at l (2 * j + 1) e (omega arith)) (small-at l (2 * j) e (omega arith)) (small-at l (2 * i + 1) e (omega arith))
+
+  -- and of the whole sum
+  pub doubled-most : natAbs (doubled l) ≤ stations l * 33800000000000000
+  unfolding doubledTo nextStation
+  doubled-most =
+      sumTo-size (λ (i : ℕ). cross l i (nextStation l i)) (stations l) 33800000000000000
+      (λ i h. cross-most i (nextStation l i) h (mod-lt (i + 1) (omega arith)))
 
 -- ---- the sum so far
 pub round-next : (l : List ℤ) (i n : ℕ) (sum z r : ℤ) → r ≡ sum +ℤ z → z ≡ cross l i ((i + 1) % n) → sum ≡ doubledTo l i → 2 * n ≡ length l → r ≡ doubledTo l (i + 1)

@@ -80,6 +80,16 @@ precision-unique north east s p r a b =
       | no n ↦ le-antisymm (b .largest n p (a .fits n)) (a .largest n r (b .fits n))
     ]
 
+-- it is no more than S, since a sum of squares is 0 or at least 1
+pub precision-most : (north east : ℤ) (s : ℕ) → s < 2 ^ 32 → precision north east s ≤ s
+precision-most north east s h =
+    let p = precision north east s in
+    let r = precision-is north east s h in
+    elim (ℕ-discrete (squares north east) 0) [
+      | yes e ↦ omega (arith, r .none e)
+      | no n ↦ below-root (s * s) s p (omega (arith, r .fits n, product-most (p * p) 1 (p * p) (100 * squares north east) (omega arith) (omega arith))) (omega arith)
+    ]
+
 -- ---- as the code has them
 pub quotient-small : (s both : ℕ) → s ≤ 1300000000 → (both ≡ 0 → ⊥) → s * s / (100 * both) < 2 ^ 54
 quotient-small s both h z =

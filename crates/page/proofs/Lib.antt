@@ -1,0 +1,10 @@
+pub mod Amounts
+pub mod Fitting
+pub mod Paging
+pub mod Places
+pub mod Printed
+pub mod Printing
+pub mod Putting
+pub mod ReadBack
+pub mod Single
+pub mod Stations

@@ -1,0 +1,12 @@
+// The program SHEET: a tape on standard input, its sheet on standard output, or the line of its refusal. All that is printed is made by `page`.
+use libc::STDIN_FILENO;
+use libc::STDOUT_FILENO;
+
+// 8,192 bytes suffice: the longest tape that is accepted has 4,811, and a longer one is refused at a byte before that.
+fn main() {
+    let mut tape = [0u8; 8192];
+    let n = io::read_full(STDIN_FILENO, &mut tape);
+    let mut out = [0u8; 4096];
+    let k = page::print(&tape[..n], &mut out);
+    io::write_all(STDOUT_FILENO, &out[..k]);
+}
