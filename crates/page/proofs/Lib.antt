@@ -1,4 +1,5 @@
 pub mod Amounts
+pub mod Enough
 pub mod Fitting
 pub mod Paging
 pub mod Places

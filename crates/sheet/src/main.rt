@@ -2,7 +2,7 @@
 use libc::STDIN_FILENO;
 use libc::STDOUT_FILENO;
 
-// 8,192 bytes suffice: the longest tape that is accepted has 4,811, and a longer one is refused at a byte before that.
+// 8,192 bytes suffice: of any tape the same is printed as of its first 8,192 bytes (page, proofs/Enough.antt).
 fn main() {
     let mut tape = [0u8; 8192];
     let n = io::read_full(STDIN_FILENO, &mut tape);

@@ -80,7 +80,7 @@ module _ (k : ℕ) (a : k ≡ 5 → ⊥) (b : k ≡ 1 → ⊥) (c : k ≡ 2 → 
   within-close at p w len = within k 4 at p w len is-close
 
 -- ---- a kind that may come is one of the five
-either : {A : Type 0} (p q : Bool) → (p ≡ true → A) → (q ≡ true → A) → (p || q) ≡ true → A
+pub either : {A : Type 0} (p q : Bool) → (p ≡ true → A) → (q ≡ true → A) → (p || q) ≡ true → A
 either true q f g e = f refl
 either false q f g e = g e
 
@@ -118,7 +118,7 @@ row-minute given minute factor e t =
     omega (arith, leb-true minute 5400 (and-eq-true-iff (leb 0 minute) (leb minute 5400) .0 i .1))
 
 -- where there is room for a row, or a leg, one more is counted without harm
-left : (p : Bool) (n : ℕ) → 0 < n → cond p 0 n ≡ 0 → p ≡ true
+pub left : (p : Bool) (n : ℕ) → 0 < n → cond p 0 n ≡ 0 → p ≡ true
 left true n h e = refl
 left false n h e = absurd (omega arith)
 

@@ -3,6 +3,7 @@ pub mod Bodies
 pub mod Branch
 pub mod Gathering
 pub mod Held
+pub mod Longest
 pub mod Numbers
 pub mod Refusals
 pub mod Round

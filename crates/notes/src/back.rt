@@ -1,0 +1,170 @@
+// A tape as text: a line for each record, with all decimals. The tape is one that reads, so each record is whole and its fields are in range.
+use crate::put;
+use crate::scan;
+ghost use mathlib.Core.Path.{_≡_};
+ghost use Prim.Native.Nat.{_+_, _*_, _<_, _≤_};
+ghost use lib.ListN.{length};
+
+// The byte so many behind a place.
+fn byte_behind(tape: &[u8], at: usize, steps: usize) -> u64
+    ensures { λ r. ⌜ r < 256 ⌝ }
+{
+    if at < tape.len() {
+        if steps < tape.len() - at {
+            return wide(tape[at + steps]);
+        }
+    }
+    0
+}
+
+fn wide(byte: u8) -> u64
+    ensures { λ r. ⌜ r < 256 ⌝ }
+{
+    byte as u64
+}
+
+fn one_more(value: u64, byte: u64) -> u64
+    requires { ⌜ value < 16777216 ⌝ }
+    requires { ⌜ byte < 256 ⌝ }
+    ensures { λ r. ⌜ r ≡ value * 256 + byte ⌝ }
+{
+    value * 256 + byte
+}
+
+fn two_behind(tape: &[u8], at: usize, steps: usize) -> u64
+    requires { ⌜ steps < 100 ⌝ }
+    ensures { λ r. ⌜ r < 65536 ⌝ }
+{
+    one_more(
+        byte_behind(tape, at, steps),
+        byte_behind(tape, at, steps + 1),
+    )
+}
+
+fn four_behind(tape: &[u8], at: usize, steps: usize) -> u64
+    requires { ⌜ steps < 100 ⌝ }
+{
+    let high = two_behind(tape, at, steps);
+    let third = one_more(high, byte_behind(tape, at, steps + 2));
+    one_more(third, byte_behind(tape, at, steps + 3))
+}
+
+// A blank, and then degrees, minutes and seconds of an amount in tenths of a second.
+fn circle(out: &mut [u8], place: usize, value: u64) -> usize {
+    let blank = put::bytes(out, place, b" ");
+    let degrees = put::number(out, blank, value / 36000);
+    let between = put::bytes(out, degrees, b" ");
+    let minutes = put::padded(out, between, value / 600 % 60, 2);
+    let behind = put::bytes(out, minutes, b" ");
+    let seconds = put::padded(out, behind, value % 600 / 10, 2);
+    let point = put::bytes(out, seconds, b".");
+    put::padded(out, point, value, 1)
+}
+
+// A blank, and then degrees and minutes of a latitude in minutes.
+fn latitude(out: &mut [u8], place: usize, value: u64) -> usize {
+    let blank = put::bytes(out, place, b" ");
+    let degrees = put::number(out, blank, value / 60);
+    let between = put::bytes(out, degrees, b" ");
+    put::padded(out, between, value % 60, 2)
+}
+
+fn decimal(out: &mut [u8], place: usize, value: u64, decimals: usize) -> usize {
+    let blank = put::bytes(out, place, b" ");
+    put::decimal(out, blank, value, decimals)
+}
+
+// The elevation is written as two's complement, in two bytes.
+fn elevation(out: &mut [u8], place: usize, value: u64) -> usize
+    requires { ⌜ value < 65536 ⌝ }
+{
+    if value < 32768 {
+        let blank = put::bytes(out, place, b" ");
+        return put::number(out, blank, value);
+    }
+    let minus = put::bytes(out, place, b" -");
+    put::number(out, minus, 65536 - value)
+}
+
+fn row_line(tape: &[u8], at: usize, out: &mut [u8], place: usize) -> usize {
+    let word = put::bytes(out, place, b"row");
+    let minute = latitude(out, word, two_behind(tape, at, 1));
+    decimal(out, minute, four_behind(tape, at, 3), 7)
+}
+
+fn project_line(tape: &[u8], at: usize, out: &mut [u8], place: usize) -> usize {
+    let word = put::bytes(out, place, b"project");
+    let minute = latitude(out, word, two_behind(tape, at, 1));
+    elevation(out, minute, two_behind(tape, at, 3))
+}
+
+// Northing, easting and azimuth to the mark, from so many bytes behind the record's first on.
+fn fixed_point(tape: &[u8], at: usize, steps: usize, out: &mut [u8], place: usize) -> usize
+    requires { ⌜ steps < 50 ⌝ }
+{
+    let northing = decimal(out, place, four_behind(tape, at, steps), 2);
+    let easting = decimal(out, northing, four_behind(tape, at, steps + 4), 2);
+    circle(out, easting, four_behind(tape, at, steps + 8))
+}
+
+fn start_line(tape: &[u8], at: usize, out: &mut [u8], place: usize) -> usize {
+    let word = put::bytes(out, place, b"start");
+    fixed_point(tape, at, 1, out, word)
+}
+
+fn leg_line(tape: &[u8], at: usize, out: &mut [u8], place: usize) -> usize {
+    let word = put::bytes(out, place, b"leg");
+    let angle = circle(out, word, four_behind(tape, at, 1));
+    decimal(out, angle, four_behind(tape, at, 5), 3)
+}
+
+fn close_line(tape: &[u8], at: usize, out: &mut [u8], place: usize) -> usize {
+    let word = put::bytes(out, place, b"close");
+    let angle = circle(out, word, four_behind(tape, at, 1));
+    fixed_point(tape, at, 5, out, angle)
+}
+
+fn record_line(tape: &[u8], at: usize, out: &mut [u8], place: usize) -> usize {
+    match scan::byte_at(tape, at) {
+        5 => row_line(tape, at, out, place),
+        1 => project_line(tape, at, out, place),
+        2 => start_line(tape, at, out, place),
+        3 => leg_line(tape, at, out, place),
+        _ => close_line(tape, at, out, place),
+    }
+}
+
+fn record_bytes(kind: u8) -> usize
+    ensures { λ r. ⌜ 0 < r ⌝ }
+{
+    match kind {
+        5 => 7,
+        1 => 5,
+        2 => 13,
+        3 => 9,
+        _ => 17,
+    }
+}
+
+// Where the next record starts, or the tape's length: always further on.
+fn next_record(tape: &[u8], at: usize) -> usize
+    requires { ⌜ at < length (now tape) ⌝ }
+    ensures { λ r. ⌜ (at < r) × (r ≤ length (now (tape .entry))) ⌝ }
+{
+    let bytes = record_bytes(scan::byte_at(tape, at));
+    if bytes < tape.len() - at {
+        return at + bytes;
+    }
+    tape.len()
+}
+
+pub fn records(tape: &[u8], out: &mut [u8]) -> usize {
+    let mut at = 0;
+    let mut place = 0;
+    while at < tape.len() {
+        let end = record_line(tape, at, out, place);
+        place = put::bytes(out, end, b"\n");
+        at = next_record(tape, at);
+    }
+    place
+}

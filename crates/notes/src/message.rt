@@ -1,0 +1,186 @@
+// What is wrong with a text, in words.
+use crate::Fault;
+use crate::Item;
+use crate::Word;
+use crate::put;
+
+fn three(out: &mut [u8], start: usize, first: &[u8], what: &[u8], last: &[u8]) -> usize {
+    let named = put::bytes(out, start, first);
+    let place = put::bytes(out, named, what);
+    put::bytes(out, place, last)
+}
+
+fn degrees(out: &mut [u8], place: usize, what: &[u8]) -> usize {
+    three(
+        out,
+        place,
+        b"the degrees of the ",
+        what,
+        b", a whole number",
+    )
+}
+
+fn minutes(out: &mut [u8], place: usize, what: &[u8]) -> usize {
+    three(
+        out,
+        place,
+        b"the minutes of the ",
+        what,
+        b", a whole number below 60",
+    )
+}
+
+fn seconds(out: &mut [u8], place: usize, what: &[u8]) -> usize {
+    three(
+        out,
+        place,
+        b"the seconds of the ",
+        what,
+        b", below 60 with at most 1 decimal",
+    )
+}
+
+fn circle_item(out: &mut [u8], place: usize, item: Item) -> usize {
+    match item {
+        Item::AzimuthDegrees => degrees(out, place, b"azimuth"),
+        Item::AzimuthMinutes => minutes(out, place, b"azimuth"),
+        Item::AzimuthSeconds => seconds(out, place, b"azimuth"),
+        Item::AngleDegrees => degrees(out, place, b"angle"),
+        Item::AngleMinutes => minutes(out, place, b"angle"),
+        Item::AngleSeconds => seconds(out, place, b"angle"),
+        Item::LatitudeDegrees => degrees(out, place, b"latitude"),
+        _ => minutes(out, place, b"latitude"),
+    }
+}
+
+fn expected(out: &mut [u8], start: usize, item: Item) -> usize {
+    let place = put::bytes(out, start, b"expected ");
+    match item {
+        Item::Factor => put::bytes(out, place, b"the scale factor, with at most 7 decimals"),
+        Item::Elevation => put::bytes(out, place, b"the mean elevation in feet, a whole number"),
+        Item::Northing => put::bytes(out, place, b"the northing in feet, with at most 2 decimals"),
+        Item::Easting => put::bytes(out, place, b"the easting in feet, with at most 2 decimals"),
+        Item::Distance => put::bytes(out, place, b"the distance in feet, with at most 3 decimals"),
+        _ => circle_item(out, place, item),
+    }
+}
+
+fn found(out: &mut [u8], start: usize, item: Item, what: &[u8]) -> usize {
+    let place = expected(out, start, item);
+    put::bytes(out, place, what)
+}
+
+fn ranges(out: &mut [u8], start: usize, word: Word) -> usize {
+    let place = put::bytes(out, start, b"out of range: ");
+    match word {
+        Word::Row => put::bytes(
+            out,
+            place,
+            b"a row has a latitude of 0 00 to 90 00 and a scale factor of 0.9990000 to 1.0010000",
+        ),
+        Word::Project => put::bytes(
+            out,
+            place,
+            b"a project has a mean latitude of 0 00 to 90 00 and a mean elevation of -1000 to 20000 feet",
+        ),
+        Word::Start => put::bytes(
+            out,
+            place,
+            b"a start has coordinates of 0.00 to 10000000.00 feet and an azimuth below 360 degrees",
+        ),
+        Word::Leg => put::bytes(
+            out,
+            place,
+            b"a leg has an angle below 360 degrees and a distance of 1.000 to 20000.000 feet",
+        ),
+        _ => put::bytes(
+            out,
+            place,
+            b"a close has an angle and an azimuth below 360 degrees and coordinates of 0.00 to 10000000.00 feet",
+        ),
+    }
+}
+
+// What the reading of the tape refuses, with the refusal's number.
+fn refused(out: &mut [u8], place: usize, fault: Fault) -> usize {
+    match fault {
+        Fault::Order => put::bytes(
+            out,
+            place,
+            b"out of order: rows come first, then one project, one start, 1 to 64 legs and one close (refusal 3)",
+        ),
+        Fault::Rows => put::bytes(
+            out,
+            place,
+            b"each row is one minute above the row before, and there are at most 600 rows (refusal 5)",
+        ),
+        Fault::Legs => put::bytes(
+            out,
+            place,
+            b"this is the 65th leg, and there are at most 64 (refusal 6)",
+        ),
+        Fault::Latitude => put::bytes(out, place, b"no row has the mean latitude (refusal 7)"),
+        Fault::Ended => put::bytes(out, place, b"the notes end before the close (refusal 2)"),
+        _ => put::bytes(out, place, b"no room for the tape"),
+    }
+}
+
+// Where a fault is: line 0 is the end of the text.
+pub fn where_is(out: &mut [u8], line: usize) -> usize {
+    if line == 0 {
+        return put::bytes(out, 0, b"end of the text: ");
+    }
+    let word = put::bytes(out, 0, b"line ");
+    let number = put::number(out, word, line as u64);
+    put::bytes(out, number, b": ")
+}
+
+pub fn words(out: &mut [u8], place: usize, fault: Fault) -> usize {
+    match fault {
+        Fault::UnknownWord => put::bytes(out, place, b"expected row, project, start, leg or close"),
+        Fault::Missing(item) => found(out, place, item, b"; the line ends before it"),
+        Fault::NoNumber(item) => found(out, place, item, b"; this is no such number"),
+        Fault::Decimals(item) => found(out, place, item, b"; this has too many decimals"),
+        Fault::Sixty(item) => found(out, place, item, b"; this is 60 or more"),
+        Fault::Behind => put::bytes(
+            out,
+            place,
+            b"expected the end of the line; text stands behind the last number",
+        ),
+        Fault::Range(word) => ranges(out, place, word),
+        _ => refused(out, place, fault),
+    }
+}
+
+// A refused tape: number and place.
+pub fn refusal_at(out: &mut [u8], number: u64, place: u64) -> usize {
+    let word = put::bytes(out, 0, b"REFUSED ");
+    let digits = put::number(out, word, number);
+    let at = put::bytes(out, digits, b" at byte ");
+    let end = put::number(out, at, place);
+    put::bytes(out, end, b": ")
+}
+
+pub fn refusal_words(out: &mut [u8], place: usize, number: u32) -> usize {
+    match number {
+        1 => put::bytes(out, place, b"too little room is lent"),
+        2 => put::bytes(
+            out,
+            place,
+            b"the tape ends in this record, or before the close",
+        ),
+        3 => put::bytes(
+            out,
+            place,
+            b"a kind unknown or out of order, or a byte behind the close",
+        ),
+        4 => put::bytes(out, place, b"a field out of range"),
+        5 => put::bytes(
+            out,
+            place,
+            b"a row not one minute above the row before, or a 601st row",
+        ),
+        6 => put::bytes(out, place, b"a 65th leg"),
+        _ => put::bytes(out, place, b"no row for the mean latitude"),
+    }
+}

@@ -1,0 +1,92 @@
+// Looking along a text. Any place may be asked for: past its end a text has the byte 0, and nothing more to say.
+ghost use Prim.Native.Nat.{_<_, _≤_};
+ghost use lib.ListN.{length};
+
+pub fn byte_at(text: &[u8], at: usize) -> u8 {
+    if at < text.len() {
+        return text[at];
+    }
+    0
+}
+
+fn is_blank(byte: u8) -> bool {
+    if byte == b' ' {
+        return true;
+    }
+    byte == b'\t'
+}
+
+// Whether a line says nothing more from a place on: there it ends, with LF, with CR LF or with the text, or a comment starts.
+pub fn is_over(text: &[u8], at: usize) -> bool {
+    if at < text.len() {
+        let byte = text[at];
+        if byte == b'\n' {
+            return true;
+        }
+        if byte == b'#' {
+            return true;
+        }
+        if byte == b'\r' {
+            return byte_at(text, at + 1) == b'\n';
+        }
+        return false;
+    }
+    true
+}
+
+fn in_word(text: &[u8], at: usize) -> bool {
+    if is_over(text, at) {
+        return false;
+    }
+    !is_blank(byte_at(text, at))
+}
+
+pub fn skip_blanks(text: &[u8], from: usize) -> usize {
+    let mut at = from;
+    while at < text.len() && is_blank(byte_at(text, at)) {
+        at += 1;
+    }
+    at
+}
+
+// The place behind the word that starts at a place.
+pub fn word_end(text: &[u8], from: usize) -> usize {
+    let mut at = from;
+    while at < text.len() && in_word(text, at) {
+        at += 1;
+    }
+    at
+}
+
+// Where the next line starts, or the text's length: always further on.
+pub fn next_line(text: &[u8], from: usize) -> usize
+    requires { ⌜ from < length (now text) ⌝ }
+    ensures { λ r. ⌜ (from < r) × (r ≤ length (now (text .entry))) ⌝ }
+{
+    let mut at = from;
+    while at < text.len() && byte_at(text, at) != b'\n' {
+        at += 1;
+    }
+    if at < text.len() {
+        return at + 1;
+    }
+    at
+}
+
+// Whether the bytes from a place up to another are those of a name.
+pub fn is_name(text: &[u8], from: usize, to: usize, name: &[u8]) -> bool {
+    if to < from {
+        return false;
+    }
+    if to - from != name.len() {
+        return false;
+    }
+    let mut i = 0;
+    while i < name.len() {
+        if byte_at(text, from + i) != name[i] {
+            return false;
+        }
+        i += 1;
+    }
+    true
+}

@@ -1,0 +1,42 @@
+// Field notes on standard input, their tape on standard output; a fault is one line on standard error, and then nothing is written as a tape.
+// The kit gives a program no exit status, so whoever calls this one goes by what it writes.
+use libc::STDERR_FILENO;
+use libc::STDIN_FILENO;
+use libc::STDOUT_FILENO;
+use notes::Fault;
+use notes::Noted;
+
+fn write_front(file: i32, room: &[u8], n: usize) {
+    if n <= room.len() {
+        io::write_all(file, &room[..n]);
+    }
+}
+
+fn tell(line: usize, fault: Fault, room: &mut [u8]) {
+    let n = notes::message_of(line, fault, room);
+    write_front(STDERR_FILENO, room, n);
+    io::write_all(STDERR_FILENO, b"\n");
+}
+
+fn print(text: &[u8], room: &mut [u8]) {
+    match notes::tape_of(text, room) {
+        Noted::Tape(n) => write_front(STDOUT_FILENO, room, n),
+        Noted::Wrong { line, fault } => tell(line, fault, room),
+    }
+}
+
+// A text that fills the room may go on behind it. Nobody needs one: the longest traverse takes 13,800 bytes, comments apart.
+fn take(room: &mut [u8], other: &mut [u8]) {
+    let n = io::read_full(STDIN_FILENO, room);
+    if n == room.len() {
+        io::write_all(STDERR_FILENO, b"the text is longer than 65,535 bytes\n");
+        return;
+    }
+    print(&room[..n], other);
+}
+
+fn main() {
+    let mut text = io::large_buffer();
+    let mut tape = io::large_buffer();
+    take(&mut text, &mut tape);
+}

@@ -1,0 +1,42 @@
+"""The examples: each tape is what its notes say, each sheet what its tape gives."""
+
+import unittest
+from pathlib import Path
+
+from second.documents import load
+from second.notes import tape_of
+from second.sheet import printed
+from second.tape import write_tape
+from second.tapes import printed_fields
+
+FOLDER = Path(__file__).parent.parent / "examples"
+NAMES = ("yard", "wanda_mason", "refused")
+
+
+def file_bytes(name: str, kind: str) -> bytes:
+    return (FOLDER / f"{name}.{kind}").read_bytes()
+
+
+class Examples(unittest.TestCase):
+    def test_each_file_belongs_to_a_name(self) -> None:
+        files = {f"{name}.{kind}" for name in NAMES for kind in ("txt", "tape", "sheet")}
+        self.assertEqual({path.name for path in FOLDER.iterdir()}, files | {"README.md"})
+
+    def test_tapes_are_what_the_notes_say(self) -> None:
+        for name in NAMES:
+            self.assertEqual(tape_of(file_bytes(name, "txt")), file_bytes(name, "tape"))
+
+    def test_the_tapes_of_the_rules_and_of_the_document(self) -> None:
+        self.assertEqual(file_bytes("yard", "tape"), write_tape(printed_fields()))
+        self.assertEqual(file_bytes("wanda_mason", "tape"), write_tape(load("wanda_mason").fields))
+
+    def test_sheets_are_what_the_tapes_give(self) -> None:
+        for name in NAMES:
+            self.assertEqual(printed(file_bytes(name, "tape")).encode(), file_bytes(name, "sheet"))
+
+    def test_the_refused_one_is_refused_for_its_angle(self) -> None:
+        self.assertEqual(file_bytes("refused", "sheet"), b"REFUSED 8\n")
+
+
+if __name__ == "__main__":
+    unittest.main()
