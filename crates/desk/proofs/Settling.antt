@@ -144,14 +144,20 @@ module _ (b : Balanced) (sound : Sound b) where
   pub run-part : (k : ℕ) (stations : List Sums) (c : Sums) → Ran b (b .legs) stations → Closing b c → k ≤ b .legs → getD stations k none .run ≤ c .run
   run-part k stations c h w i = rw (h .at k i .run, w .run) (run-up (longOf b) k (b .legs) i)
 
+  -- what the code takes from a place is the station's share
+  adjusted-is : (axis : Axis) (k : ℕ) (p q : ℤ) (x y : ℕ) → p ≡ preliminary (line axis b) k → q ≡ closure (line axis b) → x ≡ run (longOf b) k → y ≡ run (longOf b) (b .legs)
+      → p -ℤ share q x y ≡ adjusted (line axis b) k
+  unfolding adjusted
+  adjusted-is axis k p q x y e f g h = rw (e, f, g, h)
+
   pub placed-next : (k : ℕ) (l m r : List ℤ) (stations : List Sums) (c : Sums) → Ran b (b .legs) stations → k ≤ b .legs → Closing b c → m ≡ placed b k l
       → (let s = getD stations k none in
       r ≡ set (set m (2 * k) (s .north .v -ℤ share (c .north .v) (s .run) (c .run))) (2 * k + 1) (s .east .v -ℤ share (c .east .v) (s .run) (c .run)))
       → r ≡ placed b (k + 1) l
-  unfolding placed adjusted
+  unfolding placed
   placed-next k l m r stations c h i w e f =
       let s = h .at k i in
-      rw (add-one k, ← e, ← s .north, ← s .east, ← s .run, ← w .north, ← w .east, ← w .run) f
+      f ∙ rw (e, adjusted-is north k _ _ _ _ (s .north) (w .north) (s .run) (w .run), adjusted-is east k _ _ _ _ (s .east) (w .east) (s .run) (w .run), add-one k)
 
   pub placed-last : (k : ℕ) (l m : List ℤ) → k ≤ b .legs + 1 → b .legs < k → m ≡ placed b k l → m ≡ placed b (b .legs + 1) l
   placed-last k l m h i e = let j : k ≡ b .legs + 1 = omega arith in subst (λ (n : ℕ). m ≡ placed b n l) j e
