@@ -2,13 +2,15 @@
 
 `accepted` makes traverses that close, or nearly: inside, at and just past both
 limits. `damaged` yields short good tapes with every systematic fault, so that
-each refusal, each place and the order of the tests come to light.
+each refusal, each place and the order of the tests come to light. `edges` yields
+what chance seldom makes: every number of legs, both limits met exactly, rows and
+elevations from end to end, and several faults on one tape.
 """
 
-from itertools import accumulate
+from itertools import accumulate, combinations, count
 from math import isqrt
 from random import Random
-from typing import Iterator, Sequence
+from typing import Callable, Iterator, Sequence
 
 from . import desk, steps
 from .ranges import CIRCLE, COORDINATE, DISTANCE, ELEVATION, FACTOR, HALF_CIRCLE, LEGS
@@ -123,22 +125,29 @@ def angles_for(to_mark: int, carried: Sequence[int]) -> list[int]:
     return [first, *later]
 
 
-def occupied(chance: Random, azimuths: Sequence[int], measured: Sequence[int]) -> Fields:
-    """A tape whose balanced azimuths are the given ones, start and end at 0, 0.
+def carrying(
+    azimuths: Sequence[int], measured: Sequence[int], w: int, marks: tuple[int, int],
+    over: tuple[tuple[Row, ...], Project],
+) -> Fields:
+    """A tape of misclosure W whose balanced azimuths are the given ones, start and end at 0, 0.
 
-    Each angle carries its share of a chosen misclosure, which balancing then
-    takes away again.
+    Each angle carries its share of W, which balancing then takes away again.
     """
     n = len(azimuths)
-    w = misclosure(chance, n)
-    to_mark, to_closing_mark = azimuth(chance), azimuth(chance)
+    to_mark, to_closing_mark = marks
     shares = [steps.angle_share(w, n, j).value for j in range(1, n + 2)]
     targets = [*azimuths, to_closing_mark]
     carried = [(target + share) % CIRCLE for target, share in zip(targets, shares)]
     *angles, closing_angle = angles_for(to_mark, carried)
-    rows, project = zone(chance)
     legs = tuple(map(Leg, angles, measured))
-    return Fields(rows, project, Start(0, 0, to_mark), legs, Close(closing_angle, 0, 0, to_closing_mark))
+    return Fields(*over, Start(0, 0, to_mark), legs, Close(closing_angle, 0, 0, to_closing_mark))
+
+
+def occupied(chance: Random, azimuths: Sequence[int], measured: Sequence[int]) -> Fields:
+    """The same, with a misclosure, marks and rows by chance."""
+    w = misclosure(chance, len(azimuths))
+    marks = azimuth(chance), azimuth(chance)
+    return carrying(azimuths, measured, w, marks, zone(chance))
 
 
 def moved(chance: Random, fields: Fields, way: desk.Point) -> Fields:
@@ -151,28 +160,35 @@ def moved(chance: Random, fields: Fields, way: desk.Point) -> Fields:
     )
 
 
+def leaving(chance: Random, fields: Fields, left: desk.Point) -> Fields:
+    """The tape closed on a point that leaves a given closure."""
+    carried_to = desk.preliminary(fields, desk.grid_distances(fields))[-1]
+    return moved(chance, fields, carried_to.less(left))
+
+
 def walk(chance: Random, azimuths: Sequence[int], measured: Sequence[int]) -> Fields:
     """A walk along these legs, closed on a point that leaves a chosen closure."""
     fields = occupied(chance, azimuths, measured)
-    grid = desk.grid_distances(fields)
-    carried_to = desk.preliminary(fields, grid)[-1]
-    return moved(chance, fields, carried_to.less(closure(chance, sum(grid))))
+    return leaving(chance, fields, closure(chance, sum(desk.grid_distances(fields))))
+
+
+def line_of(chance: Random, n: int) -> Fields:
+    """A random walk of n legs."""
+    return walk(chance, [azimuth(chance) for _ in range(n)], distances(chance, n))
 
 
 def line(chance: Random) -> Fields:
     """A random walk of any number of legs."""
-    n = leg_count(chance, least=1)
-    return walk(chance, [azimuth(chance) for _ in range(n)], distances(chance, n))
+    return line_of(chance, leg_count(chance, least=1))
 
 
-def ring(chance: Random) -> tuple[list[int], list[int]]:
-    """Azimuths and distances that come back to where they began.
+def ring(chance: Random, n: int) -> tuple[list[int], list[int]]:
+    """n azimuths and distances that come back to where they began.
 
     Legs go in opposite pairs, one triple at 120 degrees makes an odd number.
     In order of azimuth they run clockwise, backwards the other way round, and
     shuffled any way.
     """
-    n = leg_count(chance, least=2)
     legs = []
     for distance in distances(chance, n // 2):
         odd_one = n % 2 == 1 and not legs
@@ -198,11 +214,16 @@ def strained(chance: Random, measured: Sequence[int]) -> list[int]:
     ]
 
 
-def loop(chance: Random) -> Fields:
-    """A ring that starts and closes on one point."""
-    azimuths, measured = ring(chance)
+def loop_of(chance: Random, n: int) -> Fields:
+    """A ring of n legs that starts and closes on one point."""
+    azimuths, measured = ring(chance, n)
     fields = occupied(chance, azimuths, strained(chance, measured))
     return moved(chance, fields, desk.Point(0, 0))
+
+
+def loop(chance: Random) -> Fields:
+    """A ring of any number of legs."""
+    return loop_of(chance, leg_count(chance, least=2))
 
 
 def accepted(seed: int) -> bytes:
@@ -381,3 +402,165 @@ def damaged() -> Iterator[bytes]:
     yield from many_rows(printed)
     yield from many_legs(printed)
     yield longest(printed)
+
+
+# What chance seldom makes
+
+# A factor of just one, so that grid distances are the measured ones.
+LEVEL = (Row(2_650, 10_000_000),), Project(2_650, 0)
+
+
+def first_taken(make: Callable[[Random, int], Fields], n: int) -> bytes:
+    """The first of the tapes of n legs, by seed, that the desk accepts."""
+    tapes = (write_tape(make(Random(seed), n)) for seed in count())
+    return next(tape for tape in tapes if desk.traverse(tape, desk.LEAST_WORDS).number == 0)
+
+
+def every_leg_count() -> Iterator[bytes]:
+    """An accepted line and an accepted loop of every number of legs; one leg makes no loop."""
+    for n in range(LEGS.low, LEGS.high + 1):
+        yield first_taken(line_of, n)
+        if n > 1:
+            yield first_taken(loop_of, n)
+
+
+def closures_about(limit: int) -> list[desk.Point]:
+    """None, and four of just the greatest length in different quarters, and those one hundredth
+    longer; the limit is a multiple of 5."""
+    three, four = 3 * limit // 5, 4 * limit // 5
+    at = [(limit, 0), (0, -limit), (-three, four), (-four, -three)]
+    past = [(limit, 1), (-1, -limit), (-three - 1, four), (four, three + 1)]
+    return [desk.Point(*sizes) for sizes in [(0, 0), *at, *past]]
+
+
+def at_both_limits() -> Iterator[bytes]:
+    """Each misclosure about its limit with each closure about its own, of few and many legs.
+
+    Legs of 1,000 feet make the closure's limit 20 hundredths a leg, exactly. The closing mark
+    lies at the circle's zero or just before it, so that W straddles zero.
+    """
+    for n in (1, 2, 4, LEGS.high):
+        chance = Random(n)
+        limit = 100 * (n + 1)
+        azimuths = [(89 + 1_234_567 * i) % CIRCLE for i in range(n)]
+        for i, w in enumerate((0, 1, -1, limit, -limit, limit + 1, -limit - 1)):
+            marks = 5_432_100, (0, CIRCLE - 1)[i % 2]
+            fields = carrying(azimuths, [1_000_000] * n, w, marks, LEVEL)
+            for left in closures_about(20 * n):
+                yield write_tape(leaving(chance, fields, left))
+
+
+def misclosures_all_round() -> Iterator[bytes]:
+    """The printed loop with W at half a circle and about it, at quarters, and at its limit below
+    zero and past it."""
+    printed = printed_fields()
+    half = [HALF_CIRCLE, HALF_CIRCLE - 1, HALF_CIRCLE + 1]
+    for w in (*half, QUADRANT, -QUADRANT, -500, -501):
+        angle = (90 * DEGREE + w) % CIRCLE
+        yield write_tape(printed._replace(close=printed.close._replace(angle=angle)))
+
+
+def elevations_and_factors() -> Iterator[bytes]:
+    """The printed loop at elevations from end to end, with the least, the printed and the greatest
+    factor."""
+    printed = printed_fields()
+    ends = [ELEVATION.low, ELEVATION.low + 1, ELEVATION.high - 1, ELEVATION.high]
+    for feet in (*ends, -123, -1, 0, 1, 950):
+        for factor in (FACTOR.low, printed.rows[0].factor, FACTOR.high):
+            rows = (printed.rows[0]._replace(factor=factor),)
+            yield write_tape(printed._replace(rows=rows, project=Project(rows[0].minute, feet)))
+
+
+def row_counts() -> Iterator[bytes]:
+    """The printed loop with 0 to 600 rows, each of another factor, its latitude in the first, a
+    middle and the last of them."""
+    printed = printed_fields()
+    yield write_tape(printed._replace(rows=()))
+    for rows_count in (1, 2, 3, 17, 255, 256, 257, ROWS.high - 1, ROWS.high):
+        rows = tuple(Row(i, FACTOR.low + 31 * i) for i in range(rows_count))
+        for latitude in sorted({0, rows_count // 2, rows_count - 1}):
+            yield write_tape(printed._replace(rows=rows, project=Project(latitude, -77)))
+
+
+# Several faults at once: those that fields can have, then those of the bytes
+
+
+def with_row_again(fields: Fields) -> Fields:
+    return fields._replace(rows=(*fields.rows, fields.rows[-1]))
+
+
+def with_factor_out(fields: Fields) -> Fields:
+    large = fields.rows[0]._replace(factor=FACTOR.high + 1)
+    return fields._replace(rows=(large, *fields.rows[1:]))
+
+
+def with_no_row(fields: Fields) -> Fields:
+    return fields._replace(project=fields.project._replace(latitude=4_000))
+
+
+def with_elevation_out(fields: Fields) -> Fields:
+    return fields._replace(project=fields.project._replace(elevation=ELEVATION.low - 1))
+
+
+def with_start_out(fields: Fields) -> Fields:
+    return fields._replace(start=fields.start._replace(easting=COORDINATE.high + 1))
+
+
+def with_leg_out(fields: Fields) -> Fields:
+    short = fields.legs[-1]._replace(distance=DISTANCE.low - 1)
+    return fields._replace(legs=(*fields.legs[:-1], short))
+
+
+def with_legs_too_many(fields: Fields) -> Fields:
+    return fields._replace(legs=(*fields.legs, *[fields.legs[0]] * LEGS.high))
+
+
+def with_misclosure(fields: Fields) -> Fields:
+    return fields._replace(close=fields.close._replace(angle=fields.close.angle + 20_000))
+
+
+def with_closure(fields: Fields) -> Fields:
+    return fields._replace(close=fields.close._replace(northing=fields.close.northing + 1_000))
+
+
+def with_end_cut(tape: bytes) -> bytes:
+    return tape[:-2]
+
+
+def with_byte_behind(tape: bytes) -> bytes:
+    return tape + b"\x04"
+
+
+def with_close_unknown(tape: bytes) -> bytes:
+    return tape[:-17] + b"\x06" + tape[-16:]
+
+
+FIELD_FAULTS = (
+    with_row_again, with_factor_out, with_no_row, with_elevation_out, with_start_out,
+    with_leg_out, with_legs_too_many, with_misclosure, with_closure,
+)
+BYTE_FAULTS = (with_close_unknown, with_byte_behind, with_end_cut)
+
+
+def several_faults() -> Iterator[bytes]:
+    """The printed tape with each one, two and three of these faults."""
+    faults = (*FIELD_FAULTS, *BYTE_FAULTS)
+    for number in (1, 2, 3):
+        for chosen in combinations(faults, number):
+            fields = printed_fields()
+            for fault in FIELD_FAULTS:
+                fields = fault(fields) if fault in chosen else fields
+            tape = joined(records_of(fields))
+            for fault in BYTE_FAULTS:
+                tape = fault(tape) if fault in chosen else tape
+            yield tape
+
+
+def edges() -> Iterator[bytes]:
+    """All of these tapes."""
+    yield from every_leg_count()
+    yield from at_both_limits()
+    yield from misclosures_all_round()
+    yield from elevations_and_factors()
+    yield from row_counts()
+    yield from several_faults()

@@ -2,7 +2,7 @@
 
 import unittest
 
-from second import desk
+from second import desk, tapes
 from second.tape import read_tape
 from second.tapes import accepted, damaged, longest, printed_fields
 
@@ -72,6 +72,45 @@ class Damaged(unittest.TestCase):
         tape = longest(printed_fields())
         fields = read_tape(tape).fields
         self.assertEqual((len(fields.rows), len(fields.legs)), (600, 64))
+
+
+def numbers(made) -> list[int]:
+    return [desk.traverse(tape, 130).number for tape in made]
+
+
+class Edges(unittest.TestCase):
+    def test_every_leg_count(self):
+        answers = [desk.traverse(tape, 130) for tape in tapes.every_leg_count()]
+        self.assertEqual({a.legs for a in answers if not a.loop}, set(range(1, 65)))
+        self.assertEqual({a.legs for a in answers if a.loop}, set(range(2, 65)))
+
+    def test_at_both_limits(self):
+        made = numbers(tapes.at_both_limits())
+        # of 7 misclosures 2 are past, of 9 closures 4; the misclosure is tried first
+        self.assertEqual([made.count(n) for n in (0, 8, 9)], [4 * 5 * 5, 4 * 2 * 9, 4 * 5 * 4])
+
+    def test_closures_just_at_the_limit(self):
+        for north, east in tapes.closures_about(20)[1:5]:
+            self.assertEqual(north**2 + east**2, 400)
+        for north, east in tapes.closures_about(20)[5:]:
+            self.assertGreater(north**2 + east**2, 400)
+
+    def test_misclosures_all_round(self):
+        found = [desk.misclosure(read_tape(tape).fields) for tape in tapes.misclosures_all_round()]
+        self.assertEqual(found, [6_480_000, 6_479_999, -6_479_999, 3_240_000, -3_240_000, -500, -501])
+        self.assertEqual(numbers(tapes.misclosures_all_round()), [8, 8, 8, 8, 8, 0, 8])
+
+    def test_elevations_and_rows(self):
+        self.assertEqual(set(numbers(tapes.elevations_and_factors())), {0})
+        elevations = {read_tape(tape).fields.project.elevation for tape in tapes.elevations_and_factors()}
+        self.assertLessEqual({-1_000, -1, 0, 20_000}, elevations)
+        made = numbers(tapes.row_counts())
+        self.assertEqual(made, [7] + [0] * (len(made) - 1))
+
+    def test_several_faults(self):
+        made = numbers(tapes.several_faults())
+        self.assertEqual(set(made), set(range(2, 10)))
+        self.assertEqual(len(made), 12 + 66 + 220)
 
 
 if __name__ == "__main__":
