@@ -16,7 +16,7 @@ DEFINED = (
     re.compile(r"^(?:def|class)\s+(\w+)|^([A-Z_]+) =", re.M),  # Python
 )
 
-LANGUAGE = {"rt", "use", "requires", "ensures", "unfolding", "refl", "u8", "u32", "u64", "usize", "i64"}
+LANGUAGE = {"rt", "use", "search", "requires", "ensures", "unfolding", "refl", "u8", "u32", "u64", "usize", "i64"}
 
 
 def sources() -> list[Path]:
