@@ -38,6 +38,7 @@ def known() -> set[str]:
         for pattern in DEFINED:
             names.update(name for found in pattern.findall(text) for name in ([found] if isinstance(found, str) else found) if name)
     names.update(path.name for path in (ROOT / "tools").iterdir())
+    names.update(path.stem for path in (ROOT / "trials").glob("*/*.edit"))
     for path in (ROOT / "crates").glob("*"):
         names.add(path.name)
         names.update(edit.stem for edit in path.glob("must-fail/*.edit"))
