@@ -2,7 +2,7 @@
 
 `python3 -m second.sine_cases bundle` writes the angles to standard output, four bytes
 each, high byte first; `python3 -m second.sine_cases expected` prints for each of them
-number, place and value of its sine, then of its cosine.
+number, place and value of its sine, then of its cosine, and both again for the table lent.
 """
 
 import sys
@@ -47,8 +47,8 @@ def cases() -> list[int]:
 
 
 def expected_line(angle: int) -> str:
-    """Both answers for one angle."""
-    return " ".join(map(str, (*sine(angle), *cosine(angle)))) + "\n"
+    """Both answers for one angle, twice: by the program's own table, and with that table lent."""
+    return " ".join(map(str, 2 * (*sine(angle), *cosine(angle)))) + "\n"
 
 
 def main(wanted: str) -> None:

@@ -72,6 +72,9 @@ STEPS = {
     12: Step(steps.departure, (GRID, ANY_ANGLE)),
     13: Step(steps.closure_passes, (ANY_CLOSURE, ANY_CLOSURE, S)),
     14: Step(steps.precision_number, (CLOSURE, CLOSURE, S)),
+    # again, with the table of sines lent
+    16: Step(steps.latitude, (GRID, ANY_ANGLE)),
+    17: Step(steps.departure, (GRID, ANY_ANGLE)),
 }
 
 

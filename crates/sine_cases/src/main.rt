@@ -1,4 +1,5 @@
-// Reads angles on standard input, four bytes each, high byte first, and prints number, place and value of the sine and of the cosine of each. The
+// Reads angles on standard input, four bytes each, high byte first, and prints number, place and value of the sine and of the cosine of each, by
+// the library's table and again with that table lent. The
 // expected output is made by the second program, which is written from the paper alone.
 use answer::Amount;
 use libc::STDIN_FILENO;
@@ -29,6 +30,13 @@ fn wide(x: u8) -> u32
     x as u32
 }
 
+// The same in a lent table: the library's own, lent.
+fn print_lent(angle: u32) {
+    let own = sines::table();
+    print_amount(sines::sine_in(&own, angle), b" ");
+    print_amount(sines::cosine_in(&own, angle), b"\n");
+}
+
 // One angle; false at the end of the input.
 fn one_case() -> bool {
     let mut b = [0u8; 4];
@@ -37,7 +45,8 @@ fn one_case() -> bool {
     }
     let angle = wide(b[0]) * 16777216 + wide(b[1]) * 65536 + wide(b[2]) * 256 + wide(b[3]);
     print_amount(sines::sine(angle), b" ");
-    print_amount(sines::cosine(angle), b"\n");
+    print_amount(sines::cosine(angle), b" ");
+    print_lent(angle);
     true
 }
 

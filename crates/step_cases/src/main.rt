@@ -124,6 +124,17 @@ fn area_case() {
     area_of(&mut offsets[..read_count()]);
 }
 
+// The same steps in a lent table: the library's own, lent.
+fn latitude_lent(distance: u64, azimuth: u32) -> Amount {
+    let own = sines::table();
+    course::latitude_in(&own, distance, azimuth)
+}
+
+fn departure_lent(distance: u64, azimuth: u32) -> Amount {
+    let own = sines::table();
+    course::departure_in(&own, distance, azimuth)
+}
+
 fn answer(step: usize) {
     match step {
         1 => print_count(distance::sea_level(read_signed())),
@@ -140,6 +151,8 @@ fn answer(step: usize) {
         12 => print_amount(course::departure(read_u64(), read_u32())),
         13 => print_verdict(closure::closes(read_signed(), read_signed(), read_u64())),
         14 => print_count(closure::precision(read_signed(), read_signed(), read_u64())),
+        16 => print_amount(latitude_lent(read_u64(), read_u32())),
+        17 => print_amount(departure_lent(read_u64(), read_u32())),
         _ => area_case(),
     }
 }
