@@ -1,7 +1,7 @@
-"""A bundle: many tapes in one byte string.
+"""A bundle: many cases in one byte string; and the lines that answer them.
 
-Each tape stands behind its length, two bytes, high byte first, so that another
-program can take the same tapes without knowing how they were made.
+Numbers stand high byte first, and bytes behind their length, two bytes, so that
+another program can take the same cases without knowing how they were made.
 """
 
 from typing import Iterable
@@ -9,20 +9,16 @@ from typing import Iterable
 LENGTH_BYTES = 2
 
 
-def pack(tapes: Iterable[bytes]) -> bytes:
-    """The bundle of these tapes, in their order."""
-    return b"".join(len(tape).to_bytes(LENGTH_BYTES, "big") + tape for tape in tapes)
+def number(value: int, size: int) -> bytes:
+    """A number in so many bytes, in two's complement where it is negative."""
+    return value.to_bytes(size, "big", signed=value < 0)
 
 
-def unpack(bundle: bytes) -> list[bytes]:
-    """The tapes of a bundle; one that is cut short is an error."""
-    tapes = []
-    place = 0
-    while place < len(bundle):
-        body = place + LENGTH_BYTES
-        end = body + int.from_bytes(bundle[place:body], "big")
-        if end > len(bundle):
-            raise ValueError(f"bundle cut short at {place}")
-        tapes.append(bundle[body:end])
-        place = end
-    return tapes
+def sized(content: bytes) -> bytes:
+    """Bytes behind their length."""
+    return number(len(content), LENGTH_BYTES) + content
+
+
+def line(figures: Iterable[int]) -> str:
+    """Figures as they are printed."""
+    return " ".join(map(str, figures)) + "\n"

@@ -1,22 +1,20 @@
 """Tapes for comparing another program's whole desk with this one.
 
-`python3 -m second.desk_cases bundle` writes the cases to standard output: how many
-words are lent (one byte), how many bytes for the sheet (two bytes), the tape's length
-(two bytes), the tape. `python3 -m second.desk_cases expected` prints for each of them
+In a bundle stand how many words are lent (one byte), how many bytes for the sheet (two
+bytes), and the tape behind its length. A case is answered by
 
-    number place n W C_N C_E P doubled-area loop words-changed
-     northing easting northing easting ...
+    number place n W C_N C_E P doubled-area loop northing easting ... words-changed
     number place length bytes-changed
     what the program SHEET prints
 
-that is the traverse, its words, the sheet step, and the sheet or the line of a refusal.
+that is the traverse with its words, the sheet step, and the sheet or the line of a refusal.
 """
 
-import sys
 from random import Random
-from typing import Iterable, Iterator, NamedTuple
+from typing import Iterator, NamedTuple
 
 from . import documents
+from .bundle import line, number, sized
 from .desk import LEAST_WORDS, traverse
 from .reading_cases import cut_somewhere, one_byte_changed
 from .sheet import LEAST_BYTES, printed, write_sheet
@@ -37,10 +35,10 @@ class Case(NamedTuple):
     words: int = LEAST_WORDS
     bytes: int = LEAST_BYTES
 
-    def packed(self) -> bytes:
-        """As it stands in a bundle."""
-        rooms = self.words.to_bytes(1, "big") + self.bytes.to_bytes(2, "big")
-        return rooms + len(self.tape).to_bytes(2, "big") + self.tape
+
+def packed(case: Case) -> bytes:
+    """A case as it stands in a bundle."""
+    return number(case.words, 1) + number(case.bytes, 2) + sized(case.tape)
 
 
 # The cases
@@ -78,39 +76,20 @@ def cases() -> Iterator[Case]:
 # The answers
 
 
-def traverse_lines(case: Case) -> str:
-    """All figures of the traverse, then its words; on acceptance just the stations' words change."""
+def traverse_line(case: Case) -> str:
+    """All figures of the traverse, its words, and how many; on acceptance just the stations' words change, the first ones."""
     answer = traverse(case.tape, case.words)
     words = [coordinate for station in answer.coordinates for coordinate in station]
-    figures = [*answer[:8], int(answer.loop), len(words)]
-    return " ".join(map(str, figures)) + "\n" + "".join(f" {word}" for word in words) + "\n"
+    return line((*answer[:8], int(answer.loop), *words, len(words)))
 
 
 def sheet_line(case: Case) -> str:
     """What the sheet step answers, and how many of the lent bytes, zeros before, it changed."""
     lent = bytearray(case.bytes)
     sheet = write_sheet(case.tape, lent)
-    return " ".join(map(str, (*sheet, case.bytes - lent.count(0)))) + "\n"
+    return line((*sheet, case.bytes - lent.count(0)))
 
 
 def expected(case: Case) -> str:
     """All that is expected of a program for one case."""
-    return traverse_lines(case) + sheet_line(case) + printed(case.tape)
-
-
-def bundle(of: Iterable[Case]) -> bytes:
-    return b"".join(case.packed() for case in of)
-
-
-def main(wanted: str) -> None:
-    """Write the bundle or the answers, as wanted."""
-    if wanted == "bundle":
-        sys.stdout.buffer.write(bundle(cases()))
-    elif wanted == "expected":
-        sys.stdout.writelines(map(expected, cases()))
-    else:
-        sys.exit("wanted: bundle or expected")
-
-
-if __name__ == "__main__":
-    main(sys.argv[1] if len(sys.argv) == 2 else "")
+    return traverse_line(case) + sheet_line(case) + printed(case.tape)

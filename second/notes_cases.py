@@ -1,17 +1,15 @@
 """Texts for comparing another program's notes with this one's.
 
-`python3 -m second.notes_cases bundle` writes the bundle of texts to standard
-output; `python3 -m second.notes_cases expected` prints for each of them, in order,
-its tape in hexadecimal digits, the canonical text of that tape, whether it is the
-text given, and what is answered to too little room; or the first slip.
+In a bundle a text stands behind its length. It is answered by its tape in hexadecimal
+digits, the canonical text of that tape, whether it is the text given, and what is
+answered to too little room; or by the first slip.
 """
 
 import re
-import sys
 from random import Random
 from typing import Iterator
 
-from .bundle import pack
+from .bundle import sized
 from .documents import load
 from .notes import LINES, Slip, said_lines, tape_of, text_of, text_of_fields
 from .tape import Leg, Project, Row
@@ -175,32 +173,21 @@ def cases() -> list[bytes]:
     ]
 
 
-def expected_lines(text: bytes) -> bytes:
+packed = sized
+
+
+def expected(text: bytes) -> str:
     """What is answered to one text."""
     try:
         tape = tape_of(text)
     except Slip as slip:
-        return f"{slip}\n".encode()
+        return f"{slip}\n"
     back = text_of(tape)
-    same = b"unchanged\n" if back == text else b"changed\n"
-    return tape.hex().encode() + b"\n" + back + same + short_of_room(text)
+    same = "unchanged" if back == text else "changed"
+    return f"{tape.hex()}\n{back.decode('ascii')}{same}\n{short_of_room(text)}\n"
 
 
-def short_of_room(text: bytes) -> bytes:
+def short_of_room(text: bytes) -> str:
     """What is answered to a good text where the tape has one byte too little room: its close does not fit."""
     *_, (number, _) = said_lines(text)
-    return f"line {number}: no room for the tape\n".encode()
-
-
-def main(wanted: str) -> None:
-    """Write the bundle or the answers, as wanted."""
-    if wanted == "bundle":
-        sys.stdout.buffer.write(pack(cases()))
-    elif wanted == "expected":
-        sys.stdout.buffer.write(b"".join(map(expected_lines, cases())))
-    else:
-        sys.exit("wanted: bundle or expected")
-
-
-if __name__ == "__main__":
-    main(sys.argv[1] if len(sys.argv) == 2 else "")
+    return f"line {number}: no room for the tape"

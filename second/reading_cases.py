@@ -1,15 +1,13 @@
 """Tapes for comparing another program's reading with this one's.
 
-`python3 -m second.reading_cases bundle` writes the bundle of tapes to standard
-output; `python3 -m second.reading_cases expected` prints for each of them, in
-order, number and place as the reading before refusals 8 and 9 answers.
+In a bundle a tape stands behind its length. It is answered by number and place, as
+the reading before refusals 8 and 9 tells them.
 """
 
-import sys
 from random import Random
 from typing import Iterator
 
-from .bundle import pack
+from .bundle import line, sized
 from .tape import read_tape
 from .tapes import accepted, damaged
 
@@ -42,21 +40,10 @@ def cases() -> list[bytes]:
     return [*damaged(), *random_tapes()]
 
 
-def expected_line(tape: bytes) -> str:
+packed = sized
+
+
+def expected(tape: bytes) -> str:
     """Number and place of one reading; zeros where it reads."""
     reading = read_tape(tape)
-    return f"{reading.number} {reading.place}\n"
-
-
-def main(wanted: str) -> None:
-    """Write the bundle or the answers, as wanted."""
-    if wanted == "bundle":
-        sys.stdout.buffer.write(pack(cases()))
-    elif wanted == "expected":
-        sys.stdout.write("".join(map(expected_line, cases())))
-    else:
-        sys.exit("wanted: bundle or expected")
-
-
-if __name__ == "__main__":
-    main(sys.argv[1] if len(sys.argv) == 2 else "")
+    return line((reading.number, reading.place))

@@ -1,14 +1,13 @@
 """Angles for comparing another program's sines and cosines with these.
 
-`python3 -m second.sine_cases bundle` writes the angles to standard output, four bytes
-each, high byte first; `python3 -m second.sine_cases expected` prints for each of them
-number, place and value of its sine, then of its cosine, and both again for the table lent.
+In a bundle an angle has four bytes. It is answered by number, place and value of its
+sine, then of its cosine, a line each, and by both again for the table lent.
 """
 
-import sys
 from random import Random
 
 from . import documents
+from .bundle import line, number
 from .ranges import CIRCLE, QUADRANT
 from .sines import TENTHS_IN_MINUTE
 from .steps import cosine, sine
@@ -46,20 +45,11 @@ def cases() -> list[int]:
     return chosen + [chance.randrange(CIRCLE) for _ in range(ANGLES - len(chosen))]
 
 
-def expected_line(angle: int) -> str:
+def packed(angle: int) -> bytes:
+    """An angle as it stands in a bundle."""
+    return number(angle, ANGLE_BYTES)
+
+
+def expected(angle: int) -> str:
     """Both answers for one angle, twice: by the program's own table, and with that table lent."""
-    return " ".join(map(str, 2 * (*sine(angle), *cosine(angle)))) + "\n"
-
-
-def main(wanted: str) -> None:
-    """Write the angles or the answers, as wanted."""
-    if wanted == "bundle":
-        sys.stdout.buffer.write(b"".join(angle.to_bytes(ANGLE_BYTES, "big") for angle in cases()))
-    elif wanted == "expected":
-        sys.stdout.write("".join(map(expected_line, cases())))
-    else:
-        sys.exit("wanted: bundle or expected")
-
-
-if __name__ == "__main__":
-    main(sys.argv[1] if len(sys.argv) == 2 else "")
+    return 2 * (line(sine(angle)) + line(cosine(angle)))

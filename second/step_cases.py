@@ -1,18 +1,17 @@
 """Calls for comparing another program's arithmetic steps with these.
 
-`python3 -m second.step_cases bundle` writes the calls to standard output: the step's
-number (one byte) and its arguments (eight bytes each, high byte first, two's
-complement; before the words of the doubled area their count, one byte).
-`python3 -m second.step_cases expected` prints for each of them number, place and value.
+In a bundle stand the step's number (one byte) and its arguments (eight bytes each, but
+four of an angle; before the words of the doubled area their count, one byte). A call is
+answered by number, place and value.
 """
 
-import sys
 from itertools import product
 from math import isqrt
 from random import Random
 from typing import Callable, Iterable, Iterator, NamedTuple
 
 from . import documents, steps
+from .bundle import line, number
 from .ranges import (
     ANGLE, CIRCLE, COMBINED, DISTANCE, ELEVATION, FACTOR, GRID_DISTANCE, LEGS, MISCLOSURE, OFFSET,
     PASSED_CLOSURE, QUADRANT, TESTED_CLOSURE, TOTAL, Range,
@@ -20,7 +19,6 @@ from .ranges import (
 
 SEED = 4
 INSIDE = 3
-WORD_BYTES = 8
 AREA = 15
 
 # What an argument's word can hold: signed or not, of 64 bits or of 32.
@@ -84,11 +82,19 @@ class Call(NamedTuple):
     step: int
     arguments: tuple[int, ...]
 
-    def packed(self) -> bytes:
-        """As it stands in a bundle."""
-        words = (value % (1 << 8 * WORD_BYTES) for value in self.arguments)
-        count = bytes([len(self.arguments)]) if self.step == AREA else b""
-        return bytes([self.step]) + count + b"".join(word.to_bytes(WORD_BYTES, "big") for word in words)
+
+def word(value: int, held: Range) -> bytes:
+    """A value in as many bytes as its word has."""
+    return number(value, (held.high - held.low).bit_length() // 8)
+
+
+def packed(call: Call) -> bytes:
+    """A call as it stands in a bundle."""
+    if call.step == AREA:
+        count, held = number(len(call.arguments), 1), len(call.arguments) * [SIGNED]
+    else:
+        count, held = b"", [argument.held for argument in STEPS[call.step].arguments]
+    return number(call.step, 1) + count + b"".join(map(word, call.arguments, held))
 
 
 # The calls
@@ -209,24 +215,8 @@ def cases() -> list[Call]:
 # The answers
 
 
-def expected_line(call: Call) -> str:
+def expected(call: Call) -> str:
     """Number, place and value of one answer."""
     if call.step == AREA:
-        answer = steps.doubled_area(call.arguments)
-    else:
-        answer = STEPS[call.step].answer(*call.arguments)
-    return " ".join(map(str, answer)) + "\n"
-
-
-def main(wanted: str) -> None:
-    """Write the calls or the answers, as wanted."""
-    if wanted == "bundle":
-        sys.stdout.buffer.write(b"".join(call.packed() for call in cases()))
-    elif wanted == "expected":
-        sys.stdout.write("".join(map(expected_line, cases())))
-    else:
-        sys.exit("wanted: bundle or expected")
-
-
-if __name__ == "__main__":
-    main(sys.argv[1] if len(sys.argv) == 2 else "")
+        return line(steps.doubled_area(call.arguments))
+    return line(STEPS[call.step].answer(*call.arguments))

@@ -1,23 +1,26 @@
-"""Bundles of tapes."""
+"""What bundles and answers consist of."""
 
 import unittest
 
-from second.bundle import pack, unpack
+from second.bundle import line, number, sized
 
 
 class Bundles(unittest.TestCase):
-    def test_bytes(self):
-        self.assertEqual(pack([b"", b"ab"]), b"\x00\x00\x00\x02ab")
-        self.assertEqual(pack([bytes(258)])[:2], b"\x01\x02")
+    def test_numbers(self):
+        self.assertEqual(number(258, 2), b"\x01\x02")
+        self.assertEqual(number(-2, 8), b"\xff" * 7 + b"\xfe")
+        with self.assertRaises(OverflowError):
+            number(256, 1)
 
-    def test_round_trip(self):
-        for tapes in ([], [b""], [b"", b"x", bytes(300), b"\x00\x01"]):
-            self.assertEqual(unpack(pack(tapes)), tapes)
+    def test_bytes_behind_their_length(self):
+        self.assertEqual(sized(b""), b"\x00\x00")
+        self.assertEqual(sized(b"ab"), b"\x00\x02ab")
+        self.assertEqual(sized(bytes(258))[:2], b"\x01\x02")
+        with self.assertRaises(OverflowError):
+            sized(bytes(65_536))
 
-    def test_cut_short(self):
-        for length in (1, 2, 3):
-            with self.assertRaises(ValueError):
-                unpack(pack([b"ab"])[:length])
+    def test_a_line(self):
+        self.assertEqual(line((4, 0, -15)), "4 0 -15\n")
 
 
 if __name__ == "__main__":

@@ -3,10 +3,9 @@
 import unittest
 from pathlib import Path
 
-from second.bundle import pack
 from second.documents import load
 from second.notes import LINES, Refused, Slip, tape_of, text_of, text_of_fields
-from second.notes_cases import base, cases, expected_lines, joined, shapes, shortened
+from second.notes_cases import base, cases, expected, joined, shapes, shortened
 from second.tape import write_tape
 from second.tapes import accepted, printed_fields
 
@@ -58,14 +57,10 @@ class Notes(unittest.TestCase):
     def test_every_message_stands_on_the_page(self) -> None:
         page = PAGE.read_text(encoding="utf-8")
         for text in cases():
-            said = expected_lines(text).decode()
+            said = expected(text)
             if said.startswith(("line", "end of the text")):
                 for part in said.strip().partition(": ")[2].removeprefix("expected ").split("; "):
                     self.assertIn(part, page)
-
-    def test_size_of_the_bundle(self) -> None:
-        self.assertLess(len(cases()), 3_000)
-        self.assertLess(len(pack(cases())), 400_000)
 
     def test_a_refused_tape(self) -> None:
         with self.assertRaises(Refused) as raised:

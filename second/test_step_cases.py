@@ -13,7 +13,7 @@ class Cases(unittest.TestCase):
 
     def test_every_step_is_taken_and_refused(self):
         for step in (*STEPS, AREA):
-            numbers = {step_cases.expected_line(call)[0] for call in self.cases if call.step == step}
+            numbers = {step_cases.expected(call)[0] for call in self.cases if call.step == step}
             self.assertEqual(numbers, {"0", "4"}, step)
 
     def test_every_bound_of_every_argument(self):
@@ -36,19 +36,21 @@ class Cases(unittest.TestCase):
         self.assertIn(Call(1, (950,)), calls)
         steps_of_documents = sum(len(place.cases) for name in step_cases.PRINTED for place in documents.single_steps()[name])
         self.assertGreater(len(calls), steps_of_documents)
-        self.assertTrue(all(step_cases.expected_line(call)[0] == "0" for call in calls))
+        self.assertTrue(all(step_cases.expected(call)[0] == "0" for call in calls))
 
     def test_packed(self):
-        self.assertEqual(Call(1, (-2,)).packed(), b"\x01" + b"\xff" * 7 + b"\xfe")
-        self.assertEqual(Call(AREA, ()).packed(), b"\x0f\x00")
-        self.assertEqual(Call(AREA, (1, -1)).packed(), b"\x0f\x02" + b"\x00" * 7 + b"\x01" + b"\xff" * 8)
+        packed = step_cases.packed
+        self.assertEqual(packed(Call(1, (-2,))), b"\x01" + b"\xff" * 7 + b"\xfe")
+        self.assertEqual(packed(Call(8, (1, -1))), b"\x08\x00\x00\x00\x01" + b"\xff" * 8)
+        self.assertEqual(packed(Call(AREA, ())), b"\x0f\x00")
+        self.assertEqual(packed(Call(AREA, (1, -1))), b"\x0f\x02" + b"\x00" * 7 + b"\x01" + b"\xff" * 8)
 
     def test_answers(self):
-        self.assertEqual(step_cases.expected_line(Call(9, (-30, 2_636_200, 5_276_590))), "0 0 -15\n")
-        self.assertEqual(step_cases.expected_line(Call(10, (2, 1, 2))), "0 0 1\n")
-        self.assertEqual(step_cases.expected_line(Call(13, (80, 1, 4_000_030))), "0 0 0\n")
-        self.assertEqual(step_cases.expected_line(Call(AREA, (0, 0, 5, 0, 5, 5))), "0 0 25\n")
-        self.assertEqual(step_cases.expected_line(Call(AREA, (1,))), "4 0 0\n")
+        self.assertEqual(step_cases.expected(Call(9, (-30, 2_636_200, 5_276_590))), "0 0 -15\n")
+        self.assertEqual(step_cases.expected(Call(10, (2, 1, 2))), "0 0 1\n")
+        self.assertEqual(step_cases.expected(Call(13, (80, 1, 4_000_030))), "0 0 0\n")
+        self.assertEqual(step_cases.expected(Call(AREA, (0, 0, 5, 0, 5, 5))), "0 0 25\n")
+        self.assertEqual(step_cases.expected(Call(AREA, (1,))), "4 0 0\n")
 
 
 if __name__ == "__main__":

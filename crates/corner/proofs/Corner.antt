@@ -7,6 +7,7 @@ use mathlib.Core.Path.{_≡_, sym, _∙_, ap}
 use mathlib.Core.List.{List}
 use lib.ListN.{length, getD}
 use lib.IntN.{ℤ, pos, natAbs, _-ℤ_, _*ℤ_}
+use Rattle.sines.specs.Sine.{entry}
 use Rattle.steps.specs.Course.{Axis}
 use Rattle.tape.specs.Fields.{fieldsOf}
 use Rattle.steps.proofs.Laws.{product-most}
@@ -15,12 +16,12 @@ use Rattle.desk.specs.declared.Balanced.{Balanced}
 use Rattle.desk.specs.Angles.{balancedTraverse}
 use Rattle.desk.specs.Answer.{Told, told, traversed, traversedWords}
 use Rattle.desk.specs.Inside.{Sound}
-use Rattle.desk.specs.Line.{runAll, adjusted}
+use Rattle.desk.specs.Line.{run, adjusted}
 use Rattle.desk.specs.Traverse.{along, longOf, azimuthOf, line, at}
 use Rattle.desk.proofs.Accepted.{accepted, accepted-sound, station, first-station, last-station}
 use Rattle.desk.proofs.Running.{grid-most}
 use Rattle.desk.proofs.Settling.{far-run}
-use Rattle.corner.specs.Unrounded.{fine, exactLine, unroundedAt, Within, longerSide, perLeg, bound}
+use Rattle.corner.specs.Unrounded.{fine, exactLine, unroundedAt, StandsWithin, longerSide, perLeg, bound}
 use Rattle.corner.proofs.Leg.{fine-positive, leg-near}
 use Rattle.corner.proofs.Spread.{stands}
 
@@ -33,14 +34,14 @@ after-it legs k = le-max-right k (legs - k)
 
 -- ---- a balanced traverse whose fields are in range
 module _ (b : Balanced) (sound : Sound b) (axis : Axis) (k : ℕ) (h : k ≤ b .legs) where
-  leg-off : (i : ℕ) → i < b .legs → 100 * natAbs (exactLine axis b .move i -ℤ pos fine *ℤ line axis b .move i) ≤ perLeg * fine
+  leg-off : (i : ℕ) → i < b .legs → 100 * natAbs (exactLine axis b .move i -ℤ pos fine *ℤ line entry axis b .move i) ≤ perLeg * fine
   leg-off i low = let leg = sound .leg i low in leg-near axis (longOf b i) (azimuthOf b i) (grid-most _ _ (leg .near) (leg .most)) (leg .turned)
 
-  station-near : Within (bound (b .legs) k) (adjusted (line axis b) k) (unroundedAt axis b k)
+  station-near : StandsWithin (bound (b .legs) k) (adjusted (line entry axis b) k) (unroundedAt axis b k)
   station-near =
       let m = longerSide (b .legs) k in
-      let s = stands 50 perLeg fine (line axis b) (exactLine axis b .move) leg-off k m h (before-it (b .legs) k) (after-it (b .legs) k) (far-run b sound) in
-      record { meant = omega (arith, product-most 1 1 fine (runAll (line axis b)) fine-positive (far-run b sound)); near = omega (arith, s) }
+      let s = stands 50 perLeg fine (line entry axis b) (exactLine axis b .move) leg-off k m h (before-it (b .legs) k) (after-it (b .legs) k) (far-run b sound) in
+      record { meant = omega (arith, product-most 1 1 fine (run (longOf b) (b .legs)) fine-positive (far-run b sound)); near = omega (arith, s) }
 
 -- ---- x and l are what the promise of `traverse` allows for the tape and the lent words
 module _ (tape : List ℕ) (words l : List ℤ) (x : Answer) (e : told x ≡ traversed tape (length words)) (f : l ≡ traversedWords tape words) (accepts : told x .number ≡ 0) where
@@ -51,13 +52,13 @@ module _ (tape : List ℕ) (words l : List ℤ) (x : Answer) (e : told x ≡ tra
   number = ap (λ (t : Told). t .number) (sym e) ∙ accepts
 
   sound : Sound b
-  sound = accepted-sound tape (length words) (accepted tape (length words) number)
+  sound = accepted-sound entry tape (length words) (accepted entry tape (length words) number)
 
-  pub corner : (axis : Axis) (k : ℕ) → k ≤ b .legs → Within (bound (b .legs) k) (getD l (at axis k) (pos 0)) (unroundedAt axis b k)
-  corner axis k h = rw (f, station tape words number axis k h) (station-near b sound axis k h)
+  pub corner : (axis : Axis) (k : ℕ) → k ≤ b .legs → StandsWithin (bound (b .legs) k) (getD l (at axis k) (pos 0)) (unroundedAt axis b k)
+  corner axis k h = rw (f, station entry tape words number axis k h) (station-near b sound axis k h)
 
   pub first-corner : (axis : Axis) → getD l (at axis 0) (pos 0) ≡ pos (along axis (fieldsOf tape .from))
-  first-corner axis = rw f (first-station tape words number axis)
+  first-corner axis = rw f (first-station entry tape words number axis)
 
   pub last-corner : (axis : Axis) → getD l (at axis (fieldsOf tape .legs)) (pos 0) ≡ pos (along axis (fieldsOf tape .to))
-  last-corner axis = rw f (last-station tape words number axis)
+  last-corner axis = rw f (last-station entry tape words number axis)

@@ -11,7 +11,7 @@ use Rattle.whole.proofs.Ring.{ring, exps}
 use Rattle.whole.proofs.Rounding.{nearest-is}
 use Rattle.sines.specs.Exact.{unity, Within}
 use Rattle.sines.specs.Quadrant.{circle}
-use Rattle.sines.specs.Sine.{units}
+use Rattle.sines.specs.Sine.{entry, units}
 use Rattle.sines.proofs.Bound.{unity-positive, sine-near, cosine-near}
 use Rattle.steps.specs.Course.{Axis, north, east, move, sineAlong, course}
 use Rattle.corner.specs.Unrounded.{exactAlong, fine, exactMove, perLeg}
@@ -24,7 +24,7 @@ longest = 20040020
 enough : 100 * (5000000000 + longest * units) ≤ perLeg * 10000000000
 enough = omega arith
 
-sine-along : (axis : Axis) (azimuth : ℕ) → azimuth < circle → Within units (sineAlong axis azimuth) (exactAlong axis azimuth)
+sine-along : (axis : Axis) (azimuth : ℕ) → azimuth < circle → Within units (sineAlong entry axis azimuth) (exactAlong axis azimuth)
 unfolding sineAlong exactAlong
 sine-along north azimuth h = cosine-near azimuth
 sine-along east azimuth h = sine-near azimuth h
@@ -49,9 +49,9 @@ unfolding fine
 fine-positive = omega (arith, unity-positive)
 
 pub leg-near : (axis : Axis) (distance azimuth : ℕ) → distance ≤ longest → azimuth < circle
-    → 100 * natAbs (exactMove axis distance azimuth -ℤ pos fine *ℤ course axis distance azimuth) ≤ perLeg * fine
+    → 100 * natAbs (exactMove axis distance azimuth -ℤ pos fine *ℤ course entry axis distance azimuth) ≤ perLeg * fine
 unfolding exactMove fine move
 leg-near axis distance azimuth most turned =
-    let s = sineAlong axis azimuth in
-    near-leg units perLeg 100 unity distance (course axis distance azimuth) s (exactAlong axis azimuth) enough most
+    let s = sineAlong entry axis azimuth in
+    near-leg units perLeg 100 unity distance (course entry axis distance azimuth) s (exactAlong axis azimuth) enough most
     (nearest-is (negℤ (s *ℤ pos distance)) 10000000000 (omega arith) .close) (sine-along axis azimuth turned)

@@ -4,7 +4,7 @@ use lib.IntN.{ℤ, pos, negℤ, natAbs, _-ℤ_, _*ℤ_}
 use Rattle.sines.specs.Exact.{unity, exactSine, exactCosine}
 use Rattle.steps.specs.Course.{Axis, north, east}
 use Rattle.desk.specs.Line.{Line, run, runAll, preliminary, closure}
-use Rattle.desk.specs.Traverse.{longOf, azimuthOf, line}
+use Rattle.desk.specs.Traverse.{along, longOf, azimuthOf}
 use Rattle.desk.specs.declared.Balanced.{Balanced}
 
 -- so many parts, of which so many make a hundredth of a foot
@@ -28,8 +28,8 @@ exactMove axis distance azimuth = negℤ (exactAlong axis azimuth *ℤ pos dista
 abbrev pub exactLine : Axis → Balanced → Line
 exactLine axis b =
     record {
-      from = pos fine *ℤ line axis b .from;
-      to = pos fine *ℤ line axis b .to;
+      from = pos fine *ℤ pos (along axis (b .from));
+      to = pos fine *ℤ pos (along axis (b .to));
       legs = b .legs;
       move = λ (k : ℕ). exactMove axis (longOf b k) (azimuthOf b k);
       long = longOf b;
@@ -40,10 +40,10 @@ unfoldable pub unrounded : Line → ℕ → ℤ
 unrounded l k = pos (runAll l) *ℤ preliminary l k -ℤ closure l *ℤ pos (run (l .long) k)
 
 abbrev pub unroundedAt : Axis → Balanced → ℕ → Fraction
-unroundedAt axis b k = record { parts = unrounded (exactLine axis b) k; of = fine * runAll (line axis b) }
+unroundedAt axis b k = record { parts = unrounded (exactLine axis b) k; of = fine * run (longOf b) (b .legs) }
 
 -- ---- z and a fraction differ by at most p / 100 hundredths of a foot
-pub record Within (p : ℕ) (z : ℤ) (x : Fraction) : Type 0 where
+pub record StandsWithin (p : ℕ) (z : ℤ) (x : Fraction) : Type 0 where
   pub meant : 0 < x .of
   pub near : 100 * natAbs (pos (x .of) *ℤ z -ℤ x .parts) ≤ p * x .of
 

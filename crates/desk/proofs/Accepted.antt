@@ -10,6 +10,7 @@ use borrow.Author.Tests.{le-ltb, ltb-false}
 use lib.Dec.{ltb}
 use lib.ListN.{length, getD}
 use lib.IntN.{ℤ, pos, natAbs}
+use Rattle.sines.proofs.Own.{Entries}
 use Rattle.steps.specs.Azimuth.{halfCircle, closesAngles}
 use Rattle.steps.specs.Course.{Axis, north, east}
 use Rattle.steps.proofs.Rooting.{precision-most}
@@ -17,18 +18,18 @@ use Rattle.tape.specs.declared.Reading.{Reading}
 use Rattle.tape.specs.declared.Reading.the-variants as reading
 use Rattle.tape.specs.Tape.{readingOf}
 use Rattle.tape.specs.Fields.{fieldsOf, DoesRead}
-use Rattle.tape.proofs.Branch.{by-test}
+use Rattle.whole.proofs.Branch.{by-test}
 use Rattle.tape.proofs.Refusals.{reading-number}
 use Rattle.desk.specs.declared.Balanced.{Balanced}
 use Rattle.desk.specs.declared.First.{First}
 use Rattle.desk.specs.Angles.{carried, misclosureOf, balancedTraverse}
-use Rattle.desk.specs.Answer.{Told, firstIf, firstOf, checkedAngles, northClosure, eastClosure, distanceRun, closesOn, second, secondWords, afterFirst, traversed, traversedWords}
+use Rattle.desk.specs.Answer.{Told, firstIf, firstOf, checkedAngles, northClosure, eastClosure, distanceRun, closesOn, second, secondWords, afterFirst, firstFor, traversedBy, traversedWordsBy}
 use Rattle.desk.specs.Inside.{Sound}
-use Rattle.desk.specs.Line.{adjusted}
+use Rattle.desk.specs.Line.{closure, adjusted}
 use Rattle.desk.specs.Traverse.{along, line, at, placed}
 use Rattle.desk.proofs.Balancing.{misclosure-most, sound-of}
-use Rattle.desk.proofs.Looping.{place-small, area-most}
 use Rattle.desk.proofs.Settling.{run-small, closes-near}
+use Rattle.desk.proofs.Stations.{place-small, area-most}
 use Rattle.desk.proofs.Stepping.{tape-ready}
 use Rattle.desk.proofs.Words.{word-at, words-later, first-word, last-word}
 
@@ -37,11 +38,11 @@ abbrev pub balancedTape : List ℕ → Balanced
 balancedTape tape = balancedTraverse (fieldsOf tape)
 
 -- what a tape has shown that is accepted with that many words
-pub record Accepted (tape : List ℕ) (room : ℕ) : Type 0 where
+pub record Accepted (e : ℕ → ℤ) (tape : List ℕ) (room : ℕ) : Type 0 where
   pub wide : 130 ≤ room
   pub reads : DoesRead tape
   pub angles : closesAngles (misclosureOf (fieldsOf tape)) (fieldsOf tape .legs) ≡ true
-  pub closes : closesOn (balancedTape tape) ≡ true
+  pub closes : closesOn e (balancedTape tape) ≡ true
 
 -- what each number that it is told is at most
 pub record Sized (t : Told) : Type 0 where
@@ -52,97 +53,102 @@ pub record Sized (t : Told) : Type 0 where
   pub precision : t .precision ≤ 1300000000
   pub area : natAbs (t .area) ≤ 64 * 33800000000000000
 
-module _ (tape : List ℕ) (room : ℕ) where
+module _ (e : ℕ → ℤ) (tape : List ℕ) (room : ℕ) where
   abbrev Shown : Told → Type 0
-  Shown t = t .number ≡ 0 → Accepted tape room
+  Shown t = t .number ≡ 0 → Accepted e tape room
 
-  pub accepted : Shown (traversed tape room)
-  unfolding traversed firstOf checkedAngles second
-  accepted = by-test Shown (ltb room 130) (λ few e. absurd (omega arith)) (λ wide. go (readingOf tape) refl (ltb-false room 130 wide))
+  abbrev ShownAfter : First → Type 0
+  ShownAfter x = Shown (afterFirst e (x .checked) (x .balanced))
+
+  pub accepted : Shown (traversedBy e tape room)
+  unfolding traversedBy firstFor firstOf checkedAngles second
+  accepted = by-test ShownAfter (ltb room 130) (λ few z. absurd (omega arith)) (λ wide. go (readingOf tape) refl (ltb-false room 130 wide))
     where
-      go : (r : Reading) → readingOf tape ≡ r → 130 ≤ room → Shown (afterFirst (firstIf r (fieldsOf tape) .checked) (firstIf r (fieldsOf tape) .balanced))
-      go (reading.Refused n p) h wide = λ e. absurd (omega (arith, reading-number tape n p h .0))
+      go : (r : Reading) → readingOf tape ≡ r → 130 ≤ room → ShownAfter (firstIf r (fieldsOf tape))
+      go (reading.Refused n p) h wide = λ z. absurd (omega (arith, reading-number tape n p h .0))
       go (reading.Reads st) h wide =
-          by-test (λ (x : First). Shown (afterFirst (x .checked) (x .balanced))) (closesAngles (misclosureOf (fieldsOf tape)) (fieldsOf tape .legs))
+          by-test ShownAfter (closesAngles (misclosureOf (fieldsOf tape)) (fieldsOf tape .legs))
           (λ a.
-          by-test Shown (closesOn (balancedTape tape)) (λ c e. record { wide = wide; reads = record { last = st; reads = h }; angles = a; closes = c })
-          (λ c e. absurd (omega arith)))
-          (λ a e. absurd (omega arith))
+          by-test Shown (closesOn e (balancedTape tape)) (λ c z. record { wide = wide; reads = record { last = st; reads = h }; angles = a; closes = c })
+          (λ c z. absurd (omega arith)))
+          (λ a z. absurd (omega arith))
 
   -- no number is above 9
   abbrev Nine : Told → Type 0
   Nine t = t .number ≤ 9
 
-  pub number-most : Nine (traversed tape room)
-  unfolding traversed firstOf checkedAngles second
-  number-most = by-test Nine (ltb room 130) (λ few. omega arith) (λ wide. go (readingOf tape) refl)
+  abbrev NineAfter : First → Type 0
+  NineAfter x = Nine (afterFirst e (x .checked) (x .balanced))
+
+  pub number-most : Nine (traversedBy e tape room)
+  unfolding traversedBy firstFor firstOf checkedAngles second
+  number-most = by-test NineAfter (ltb room 130) (λ few. omega arith) (λ wide. go (readingOf tape) refl)
     where
-      go : (r : Reading) → readingOf tape ≡ r → Nine (afterFirst (firstIf r (fieldsOf tape) .checked) (firstIf r (fieldsOf tape) .balanced))
+      go : (r : Reading) → readingOf tape ≡ r → NineAfter (firstIf r (fieldsOf tape))
       go (reading.Refused n p) h = omega (arith, reading-number tape n p h .1)
       go (reading.Reads st) h =
-          by-test (λ (x : First). Nine (afterFirst (x .checked) (x .balanced))) (closesAngles (misclosureOf (fieldsOf tape)) (fieldsOf tape .legs))
-          (λ a. by-test Nine (closesOn (balancedTape tape)) (λ c. omega arith) (λ c. omega arith)) (λ a. omega arith)
+          by-test NineAfter (closesAngles (misclosureOf (fieldsOf tape)) (fieldsOf tape .legs))
+          (λ a. by-test Nine (closesOn e (balancedTape tape)) (λ c. omega arith) (λ c. omega arith)) (λ a. omega arith)
 
   -- and the answer is that of the second step
-  pub accepted-told : Accepted tape room → traversed tape room ≡ second (balancedTape tape)
-  unfolding traversed firstOf checkedAngles
+  pub accepted-told : Accepted e tape room → traversedBy e tape room ≡ second e (balancedTape tape)
+  unfolding traversedBy firstFor firstOf checkedAngles
   accepted-told a = rw (le-ltb room 130 (a .wide), a .reads .reads, a .angles)
 
-  pub accepted-legs : Accepted tape room → traversed tape room .legs ≡ balancedTape tape .legs
+  pub accepted-legs : Accepted e tape room → traversedBy e tape room .legs ≡ balancedTape tape .legs
   unfolding second
   accepted-legs a = rw (accepted-told a, a .closes)
 
-  pub accepted-sound : Accepted tape room → Sound (balancedTape tape)
+  pub accepted-sound : Accepted e tape room → Sound (balancedTape tape)
   accepted-sound a = sound-of (fieldsOf tape) (tape-ready tape (a .reads))
 
-  pub accepted-sized : Accepted tape room → Sized (traversed tape room)
+  pub accepted-sized : Entries e → Accepted e tape room → Sized (traversedBy e tape room)
   unfolding second balancedTraverse misclosureOf
-  accepted-sized a =
+  accepted-sized entries a =
       let b = balancedTape tape in
       let f = fieldsOf tape in
       let sound = accepted-sound a in
-      let n = closes-near b sound north (a .closes) in
-      let e = closes-near b sound east (a .closes) in
+      let near : (axis : Axis) → natAbs (closure (line e axis b)) ≤ 26000 = λ axis. closes-near b sound e axis (a .closes) in
       let run = run-small b sound in
       rw (accepted-told a, a .closes)
       (record {
         legs = sound .few;
         w = misclosure-most (carried f (f .legs)) (f .given);
-        north = n;
-        east = e;
-        precision = omega (arith, precision-most (northClosure b) (eastClosure b) (distanceRun b) (omega arith));
-        area = area-most b sound n e;
+        north = near north;
+        east = near east;
+        precision = omega (arith, precision-most (northClosure e b) (eastClosure e b) (distanceRun b) (omega arith));
+        area = area-most e entries b sound near;
       })
 
 -- ---- the words of an answer whose number is 0
-module _ (tape : List ℕ) (words : List ℤ) (e : traversed tape (length words) .number ≡ 0) where
+module _ (e : ℕ → ℤ) (tape : List ℕ) (words : List ℤ) (none : traversedBy e tape (length words) .number ≡ 0) where
   abbrev b : Balanced
   b = balancedTape tape
 
-  a : Accepted tape (length words)
-  a = accepted tape (length words) e
+  a : Accepted e tape (length words)
+  a = accepted e tape (length words) none
 
   sound : Sound b
-  sound = accepted-sound tape (length words) a
+  sound = accepted-sound e tape (length words) a
 
-  pub accepted-words : traversedWords tape words ≡ placed b (b .legs + 1) words
-  unfolding traversedWords firstOf checkedAngles secondWords
+  pub accepted-words : traversedWordsBy e tape words ≡ placed e b (b .legs + 1) words
+  unfolding traversedWordsBy firstFor firstOf checkedAngles secondWords
   accepted-words = rw (le-ltb (length words) 130 (a .wide), a .reads .reads, a .angles, a .closes)
 
-  pub station : (axis : Axis) (k : ℕ) → k ≤ b .legs → getD (traversedWords tape words) (at axis k) (pos 0) ≡ adjusted (line axis b) k
-  station axis k h = rw accepted-words (word-at b words axis (b .legs + 1) k (omega arith) (omega (arith, sound .few, a .wide)))
+  pub station : (axis : Axis) (k : ℕ) → k ≤ b .legs → getD (traversedWordsBy e tape words) (at axis k) (pos 0) ≡ adjusted (line e axis b) k
+  station axis k h = rw accepted-words (word-at e b words axis (b .legs + 1) k (omega arith) (omega (arith, sound .few, a .wide)))
 
-  pub word-small : (axis : Axis) (k : ℕ) → k ≤ b .legs → natAbs (getD (traversedWords tape words) (at axis k) (pos 0)) < 2 ^ 40
-  word-small axis k h = place-small b sound axis k (closes-near b sound axis (a .closes)) h _ (station axis k h)
+  pub word-small : Entries e → (axis : Axis) (k : ℕ) → k ≤ b .legs → natAbs (getD (traversedWordsBy e tape words) (at axis k) (pos 0)) < 2 ^ 40
+  word-small entries axis k h = place-small e entries b sound axis k (closes-near b sound e axis (a .closes)) h _ (station axis k h)
 
-  pub first-station : (axis : Axis) → getD (traversedWords tape words) (at axis 0) (pos 0) ≡ pos (along axis (fieldsOf tape .from))
+  pub first-station : (axis : Axis) → getD (traversedWordsBy e tape words) (at axis 0) (pos 0) ≡ pos (along axis (fieldsOf tape .from))
   unfolding balancedTraverse
-  first-station axis = rw accepted-words (first-word b words sound (a .wide) axis)
+  first-station axis = rw accepted-words (first-word e b words sound (a .wide) axis)
 
-  pub last-station : (axis : Axis) → getD (traversedWords tape words) (at axis (fieldsOf tape .legs)) (pos 0) ≡ pos (along axis (fieldsOf tape .to))
+  pub last-station : (axis : Axis) → getD (traversedWordsBy e tape words) (at axis (fieldsOf tape .legs)) (pos 0) ≡ pos (along axis (fieldsOf tape .to))
   unfolding balancedTraverse
-  last-station axis = rw accepted-words (last-word b words sound (a .wide) axis)
+  last-station axis = rw accepted-words (last-word e b words sound (a .wide) axis)
 
-  pub later-words : (i : ℕ) → 2 * (fieldsOf tape .legs + 1) ≤ i → getD (traversedWords tape words) i (pos 0) ≡ getD words i (pos 0)
+  pub later-words : (i : ℕ) → 2 * (fieldsOf tape .legs + 1) ≤ i → getD (traversedWordsBy e tape words) i (pos 0) ≡ getD words i (pos 0)
   unfolding balancedTraverse
-  later-words i h = rw accepted-words (words-later b words (b .legs + 1) i h)
+  later-words i h = rw accepted-words (words-later e b words (b .legs + 1) i h)

@@ -4,6 +4,8 @@ use Prim.Native.Nat.{ℕ, zero, suc, _+_}
 use mathlib.Core.Path.{_≡_, refl, sym, _∙_, ap}
 use mathlib.Core.Bool.{Bool, true, false, cond}
 use mathlib.Core.List.{List}
+use lib.Dec.{ltb}
+use lib.ListN.{length}
 use lib.IntN.{ℤ}
 use Rattle.steps.specs.Azimuth.{closesAngles, onward}
 use Rattle.tape.specs.declared.Fields.{Fields}
@@ -11,7 +13,7 @@ use Rattle.tape.specs.Fields.{fieldsOf, DoesRead}
 use Rattle.desk.specs.declared.Balanced.{Balanced}
 use Rattle.desk.specs.declared.Checked.the-variants.{Good}
 use Rattle.desk.specs.Angles.{angleAt, carried, misclosureOf, balancedOf, filled, zeros, balancedTraverse}
-use Rattle.desk.specs.Answer.{refusedFirst, checkedAngles, firstOf, closesOn, second, secondWords, traversed, wordsAfterFirst, traversedWords}
+use Rattle.desk.specs.Answer.{refusedFirst, checkedAngles, firstOf, closesOn, second, secondWords, firstFor, traversedBy, wordsAfterFirst, traversedWordsBy}
 use Rattle.desk.specs.Traverse.{placed, offsetsTo, areaOf}
 use Rattle.desk.proofs.Accepted.{Accepted, accepted, accepted-told}
 
@@ -69,57 +71,57 @@ module _ (f : Fields) where
   angles-bare = rw misclosure-bare
 
 -- ---- the second step
-module _ (b : Balanced) where
-  placed-bare : (k : ℕ) (words : List ℤ) → placed b k words ≡ placed (bareTraverse b) k words
+module _ (e : ℕ → ℤ) (b : Balanced) where
+  placed-bare : (k : ℕ) (words : List ℤ) → placed e b k words ≡ placed e (bareTraverse b) k words
   unfolding placed
   placed-bare zero words = refl
   placed-bare (suc k) words = rw (placed-bare k words)
 
-  offsets-bare : (k : ℕ) → offsetsTo b k ≡ offsetsTo (bareTraverse b) k
+  offsets-bare : (k : ℕ) → offsetsTo e b k ≡ offsetsTo e (bareTraverse b) k
   unfolding offsetsTo
   offsets-bare zero = refl
   offsets-bare (suc k) = rw (offsets-bare k)
 
-  same-test : closesOn (bareTraverse b) ≡ closesOn b
+  same-test : closesOn e (bareTraverse b) ≡ closesOn e b
   unfolding closesOn
   same-test = refl
 
-  same-second : closesOn b ≡ true → second b ≡ second (bareTraverse b)
+  same-second : closesOn e b ≡ true → second e b ≡ second e (bareTraverse b)
   unfolding second areaOf
   same-second h = rw (same-test, h, offsets-bare (b .legs))
 
-  same-words : (words : List ℤ) → secondWords b words ≡ secondWords (bareTraverse b) words
+  same-words : (words : List ℤ) → secondWords e b words ≡ secondWords e (bareTraverse b) words
   unfolding secondWords
   same-words words = rw (same-test, placed-bare (b .legs + 1) words)
 
-module _ (f : Fields) where
+module _ (e : ℕ → ℤ) (f : Fields) where
   abbrev b : Balanced
   b = balancedTraverse f
 
-  closes-bare : closesOn b ≡ closesOn (balancedTraverse (bare f))
-  closes-bare = sym (same-test b) ∙ ap closesOn (traverse-bare f)
+  closes-bare : closesOn e b ≡ closesOn e (balancedTraverse (bare f))
+  closes-bare = sym (same-test e b) ∙ ap (closesOn e) (traverse-bare f)
 
-  second-bare : closesOn b ≡ true → second b ≡ second (balancedTraverse (bare f))
-  second-bare h = same-second b h ∙ ap second (traverse-bare f)
+  second-bare : closesOn e b ≡ true → second e b ≡ second e (balancedTraverse (bare f))
+  second-bare h = same-second e b h ∙ ap (second e) (traverse-bare f)
 
-  words-bare : (words : List ℤ) → secondWords b words ≡ secondWords (balancedTraverse (bare f)) words
-  words-bare words = same-words b words ∙ ap (λ (x : Balanced). secondWords x words) (traverse-bare f)
+  words-bare : (words : List ℤ) → secondWords e b words ≡ secondWords e (balancedTraverse (bare f)) words
+  words-bare words = same-words e b words ∙ ap (λ (x : Balanced). secondWords e x words) (traverse-bare f)
 
   -- the words, from the fields
   abbrev wordsFrom : List ℤ → List ℤ
-  wordsFrom words = cond (closesAngles (misclosureOf f) (f .legs)) (secondWords b words) words
+  wordsFrom words = cond (closesAngles (misclosureOf f) (f .legs)) (secondWords e b words) words
 
-  words-from : (words : List ℤ) → wordsAfterFirst (checkedAngles f .checked) (checkedAngles f .balanced) words ≡ wordsFrom words
+  words-from : (words : List ℤ) → wordsAfterFirst e (checkedAngles f .checked) (checkedAngles f .balanced) words ≡ wordsFrom words
   unfolding checkedAngles
   words-from words = go (closesAngles (misclosureOf f) (f .legs))
     where
-      go : (x : Bool) → (let a = cond x (record { checked = Good; balanced = b }) (refusedFirst 8 (f .place)) in wordsAfterFirst (a .checked) (a .balanced) words)
-          ≡ cond x (secondWords b words) words
+      go : (x : Bool) → (let a = cond x (record { checked = Good; balanced = b }) (refusedFirst 8 (f .place)) in wordsAfterFirst e (a .checked) (a .balanced) words)
+          ≡ cond x (secondWords e b words) words
       go true = refl
       go false = refl
 
 -- ---- two tapes that read, with the same fields
-module _ (s t : List ℕ) (a : DoesRead s) (b : DoesRead t) (same : bare (fieldsOf s) ≡ bare (fieldsOf t)) where
+module _ (e : ℕ → ℤ) (s t : List ℕ) (a : DoesRead s) (b : DoesRead t) (same : bare (fieldsOf s) ≡ bare (fieldsOf t)) where
   abbrev f : Fields
   f = fieldsOf s
 
@@ -129,23 +131,30 @@ module _ (s t : List ℕ) (a : DoesRead s) (b : DoesRead t) (same : bare (fields
   by-bare : {A : Type 0} (h : Fields → A) → h f ≡ h (bare f) → h g ≡ h (bare g) → h f ≡ h g
   by-bare h i j = i ∙ ap h same ∙ sym j
 
-  both : (room : ℕ) → Accepted s room → Accepted t room
+  both : (room : ℕ) → Accepted e s room → Accepted e t room
   both room x =
       record {
         wide = x .wide;
         reads = b;
         angles = sym (by-bare (λ u. closesAngles (misclosureOf u) (u .legs)) (angles-bare f) (angles-bare g)) ∙ x .angles;
-        closes = sym (by-bare (λ u. closesOn (balancedTraverse u)) (closes-bare f) (closes-bare g)) ∙ x .closes;
+        closes = sym (by-bare (λ u. closesOn e (balancedTraverse u)) (closes-bare e f) (closes-bare e g)) ∙ x .closes;
       }
 
-  pub fields-alone : (room : ℕ) → traversed s room .number ≡ 0 → traversed s room ≡ traversed t room
-  fields-alone room e =
-      let x = accepted s room e in
+  pub fields-alone : (room : ℕ) → traversedBy e s room .number ≡ 0 → traversedBy e s room ≡ traversedBy e t room
+  fields-alone room none =
+      let x = accepted e s room none in
       let y = both room x in
-      accepted-told s room x ∙ by-bare (λ u. second (balancedTraverse u)) (second-bare f (x .closes)) (second-bare g (y .closes)) ∙ sym (accepted-told t room y)
+      accepted-told e s room x ∙ by-bare (λ u. second e (balancedTraverse u)) (second-bare e f (x .closes)) (second-bare e g (y .closes)) ∙ sym (accepted-told e t room y)
 
-  pub fields-alone-words : (words : List ℤ) → traversedWords s words ≡ traversedWords t words
-  unfolding traversedWords firstOf
-  fields-alone-words words =
-      let h = by-bare (λ u. wordsFrom u words) (rw (angles-bare f, words-bare f words)) (rw (angles-bare g, words-bare g words)) in
-      rw (a .reads, b .reads, words-from f words, words-from g words, h)
+  pub fields-alone-words : (words : List ℤ) → traversedWordsBy e s words ≡ traversedWordsBy e t words
+  unfolding traversedWordsBy firstFor firstOf
+  fields-alone-words words = go (ltb (length words) 130)
+    where
+      -- with too few words, and with enough
+      go : (x : Bool)
+          → (let y = cond x (refusedFirst 1 0) (firstOf s) in wordsAfterFirst e (y .checked) (y .balanced) words)
+          ≡ (let z = cond x (refusedFirst 1 0) (firstOf t) in wordsAfterFirst e (z .checked) (z .balanced) words)
+      go true = refl
+      go false =
+          let h = by-bare (λ u. wordsFrom e u words) (rw (angles-bare f, words-bare e f words)) (rw (angles-bare g, words-bare e g words)) in
+          rw (a .reads, b .reads, words-from e f words, words-from e g words, h)

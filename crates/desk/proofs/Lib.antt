@@ -8,5 +8,6 @@ pub mod Running
 pub mod Scaling
 pub mod Settling
 pub mod Single
+pub mod Stations
 pub mod Stepping
 pub mod Words

@@ -1,43 +1,30 @@
--- The stations of a loop, taken from the first: each is within the range of the area step, and two words a turn make the list of them. The step then
--- gives the doubled area.
+-- The words of the stations, taken from the first: two words a turn make the list of them, and where they are in range the area step gives its value.
 use Prim.Native.Nat.{ℕ, zero, suc, _+_, _*_, _%_, _^_, _≤_, _<_}
 use native.Mathlib.Omega.{arith}
 use native.Mathlib.Numerals.{add-one}
-use mathlib.Core.Path.{_≡_, refl, _∙_, ap, subst}
-use mathlib.Core.Bool.{Bool, true, false, _&&_}
+use mathlib.Core.Path.{_≡_, refl, _∙_, subst}
+use mathlib.Core.Bool.{Bool, true, false, cond}
 use mathlib.Core.List.{List, [], _∷_, _++_}
-use borrow.Author.Tests.{le-leb, eq-eqb, ne-eqb}
-use lib.Dec.{leb, eqb}
-use lib.ListN.{length, getD, take, set, length-append, length-set}
+use borrow.Author.Tests.{eq-eqb, ne-eqb}
+use lib.Dec.{eqb}
+use lib.ListN.{length, take, set, length-append, length-set}
 use lib.Seq.{take-suc-set, append-snoc}
-use lib.IntN.{ℤ, pos, natAbs, negℤ, _+ℤ_, _-ℤ_}
-use Rattle.whole.proofs.Laws.{abs-neg, triangle}
-use Rattle.whole.proofs.Ring.{ring, exps}
+use lib.IntN.{ℤ, pos, natAbs, _-ℤ_}
 use Rattle.answer.specs.declared.Amount.{Amount}
 use Rattle.answer.specs.Told.{told}
 use Rattle.answer.proofs.Telling.{value-given, both, inside-yes}
-use Rattle.steps.specs.Area.{small, areaStep}
-use Rattle.steps.specs.Course.{Axis, north, east}
-use Rattle.steps.proofs.Areas.{doubled-most}
-use Rattle.steps.proofs.Sharing.{share-most}
-use Rattle.tape.proofs.Branch.{by-test}
-use Rattle.desk.specs.Line.{run, runAll, preliminary, closure, shareAt, adjusted}
-use Rattle.desk.specs.Traverse.{along, longOf, line, offset, offsetsTo, isLoop, areaOf}
-use Rattle.desk.specs.Inside.{Sound, Written}
+use Rattle.steps.specs.Area.{areaStep, doubled}
+use Rattle.desk.specs.Traverse.{isLoop}
+use Rattle.desk.specs.Inside.{wordAt, takenFrom, Placed}
 use Rattle.desk.specs.declared.Balanced.{Balanced}
-use Rattle.desk.proofs.Compass.{run-up, first-fixed}
-use Rattle.desk.proofs.Running.{near-most, drift}
-use Rattle.desk.proofs.Settling.{far-run}
 
--- ---- the range of the area step
-small-append : (xs ys : List ℤ) → small ys ≡ true → small (xs ++ ys) ≡ small xs
-unfolding small
-small-append [] ys e = e
-small-append (z ∷ zs) ys e = ap (λ (t : Bool). leb (natAbs z) 130000000 && t) (small-append zs ys e)
+-- ---- whether there is a loop
+module _ (b : Balanced) where
+  pub loop-known : b .from .north ≡ b .to .north → eqb (b .from .east) (b .to .east) ≡ isLoop b
+  loop-known e = rw (eq-eqb (b .from .north) (b .to .north) e)
 
-small-two : (y z : ℤ) → natAbs y ≤ 130000000 → natAbs z ≤ 130000000 → small (y ∷ z ∷ []) ≡ true
-unfolding small
-small-two y z h i = rw (le-leb (natAbs y) 130000000 h, le-leb (natAbs z) 130000000 i)
+  pub loop-not : (b .from .north ≡ b .to .north → ⊥) → eqb (b .from .north) (b .to .north) ≡ isLoop b
+  loop-not n = rw (ne-eqb (b .from .north) (b .to .north) n)
 
 -- a word, which the code has in a local
 pub word-fits : (z w : ℤ) → z ≡ w → natAbs w < 2 ^ 40 → natAbs z < 2 ^ 62
@@ -50,100 +37,53 @@ take-two l k y z h =
     rw (e, take-suc-set (set l (2 * k) y) (2 * k + 1) z (omega (arith, length-set l (2 * k) y)), add-one (2 * k), take-suc-set l (2 * k) y (omega arith))
     (append-snoc (take (2 * k) l) y (z ∷ []))
 
--- ---- the list of the offsets, and whether there is a loop
-module _ (b : Balanced) where
-  offsets-length : (k : ℕ) → length (offsetsTo b k) ≡ 2 * k
-  unfolding offsetsTo
-  offsets-length zero = refl
-  offsets-length (suc k) = omega (arith, length-append (offsetsTo b k) (offset b north k ∷ offset b east k ∷ []), offsets-length k)
+-- ---- the list of what is taken from the first station
+module _ (words : List ℤ) where
+  pub taken-length : (k : ℕ) → length (takenFrom words k) ≡ 2 * k
+  unfolding takenFrom
+  taken-length zero = refl
+  taken-length (suc k) = omega (arith, length-append (takenFrom words k) ((wordAt words (2 * k) -ℤ wordAt words 0) ∷ (wordAt words (2 * k + 1) -ℤ wordAt words 1) ∷ []), taken-length k)
 
-  pub offsets-count : (k : ℕ) (l : List ℤ) → l ≡ offsetsTo b k → 2 * k ≡ length l
-  offsets-count k l e = rw (e, offsets-length k)
+  pub taken-count : (k : ℕ) (l : List ℤ) → l ≡ takenFrom words k → 2 * k ≡ length l
+  taken-count k l e = rw (e, taken-length k)
 
-  pub loop-known : b .from .north ≡ b .to .north → eqb (b .from .east) (b .to .east) ≡ isLoop b
-  loop-known e = rw (eq-eqb (b .from .north) (b .to .north) e)
+  pub taken-first : (l : List ℤ) → take (2 * 0) l ≡ takenFrom words 0
+  unfolding takenFrom
+  taken-first l = refl
 
-  pub loop-not : (b .from .north ≡ b .to .north → ⊥) → eqb (b .from .north) (b .to .north) ≡ isLoop b
-  loop-not n = rw (ne-eqb (b .from .north) (b .to .north) n)
+  pub taken-next : (k n : ℕ) (first l m : List ℤ) → Placed n words → k < n → take (2 * k) l ≡ takenFrom words k → length l ≡ length first → 128 ≤ length first
+      → m ≡ set (set l (2 * k) (wordAt words (2 * k) -ℤ wordAt words 0)) (2 * k + 1) (wordAt words (2 * k + 1) -ℤ wordAt words 1)
+      → take (2 * (k + 1)) m ≡ takenFrom words (k + 1)
+  unfolding takenFrom
+  taken-next k n first l m p h e r s f = rw (f, take-two l k _ _ (omega (arith, p .few)), e, add-one k)
 
-  pub area-none : (loop : Bool) → loop ≡ isLoop b → loop ≡ false → pos 0 ≡ areaOf b
-  unfolding areaOf
-  area-none loop e f = rw (← e, f)
+  pub taken-last : (k n : ℕ) (l : List ℤ) → k ≤ n → n ≤ k → take (2 * k) l ≡ takenFrom words k → take (2 * n) l ≡ takenFrom words n
+  taken-last k n l h i e = let j : k ≡ n = omega arith in subst (λ (q : ℕ). take (2 * q) l ≡ takenFrom words q) j e
 
-  pub offsets-first : (l : List ℤ) → take (2 * 0) l ≡ offsetsTo b 0
-  unfolding offsetsTo
-  offsets-first l = refl
+  -- ---- the words of a station, and of the first
+  module _ (n : ℕ) (p : Placed n words) where
+    pub north-fits : (k : ℕ) → k < n → natAbs (wordAt words (2 * k)) < 2 ^ 40
+    north-fits k h = p .north k h
 
-  pub offsets-last : (k : ℕ) (l : List ℤ) → k ≤ b .legs → b .legs ≤ k → take (2 * k) l ≡ offsetsTo b k → take (2 * b .legs) l ≡ offsetsTo b (b .legs)
-  offsets-last k l h i e = let j : k ≡ b .legs = omega arith in subst (λ (n : ℕ). take (2 * n) l ≡ offsetsTo b n) j e
+    pub first-north-fits : natAbs (wordAt words 0) < 2 ^ 40
+    first-north-fits = p .north 0 (omega (arith, p .some))
 
--- ---- a traverse whose fields are in range: no station is far from the first
-module _ (b : Balanced) (sound : Sound b) where
-  module _ (axis : Axis) (k : ℕ) (near : natAbs (closure (line axis b)) ≤ 26000) (h : k ≤ b .legs) where
-    place-drift : natAbs (adjusted (line axis b) k -ℤ pos (along axis (b .from))) ≤ 130000000
-    unfolding adjusted
-    place-drift =
-        let l = line axis b in
-        let p = preliminary l k in
-        let s = shareAt l k in
-        let f = pos (along axis (b .from)) in
-        let e : p -ℤ s -ℤ f ≡ p -ℤ f +ℤ negℤ s = ring (p ∷ s ∷ f ∷ []) (λ v. search exps) tt in
-        let most = share-most (closure l) (runAll l) (far-run b sound) (run (longOf b) k) (run-up (longOf b) k (b .legs) h) in
-        rw e (omega (arith, triangle (p -ℤ f) (negℤ s), abs-neg s, drift b sound axis k h, sound .few, most))
+    pub east-fits : (k : ℕ) → k < n → natAbs (wordAt words (2 * k + 1)) < 2 ^ 40
+    east-fits k h = p .east k h
 
-    offset-small : natAbs (offset b axis k) ≤ 130000000
-    offset-small = rw (first-fixed (line axis b) (far-run b sound)) place-drift
+    pub first-east-fits : natAbs (wordAt words 1) < 2 ^ 40
+    first-east-fits = p .east 0 (omega (arith, p .some))
 
-    pub place-small : (z : ℤ) → z ≡ adjusted (line axis b) k → natAbs z < 2 ^ 40
-    place-small z e =
-        rw e (omega (arith, near-most (adjusted (line axis b) k) (along axis (b .from)) 130000000 place-drift, sound .from axis))
+    -- ---- the area
+    module _ (looped : Bool) where
+      pub area-is : (r : Amount) (v : ℤ) (l : List ℤ) → looped ≡ true → told r ≡ areaStep l → v ≡ told r .value → l ≡ takenFrom words n
+          → v ≡ cond looped (doubled (takenFrom words n)) (pos 0)
+      area-is r v l f t g i =
+          let m = taken-length n in
+          let s : told r ≡ areaStep (takenFrom words n) = rw (← i) t in
+          let count = inside-yes 2 128 (length (takenFrom words n)) (omega (arith, m, p .some)) (omega (arith, m, p .few)) in
+          let even = eq-eqb (length (takenFrom words n) % 2) 0 (omega (arith, m)) in
+          rw f (g ∙ value-given (told r) _ _ s (both _ _ (both _ _ count even) (p .near)))
 
-  pub north-small : (k : ℕ) (words : List ℤ) → Written b words → natAbs (closure (line north b)) ≤ 26000 → k ≤ b .legs
-      → natAbs (getD words (2 * k) (pos 0)) < 2 ^ 40
-  north-small k words w near h = place-small north k near h _ (w .north k h)
-
-  pub first-north-small : (words : List ℤ) → Written b words → natAbs (closure (line north b)) ≤ 26000 → natAbs (getD words 0 (pos 0)) < 2 ^ 40
-  first-north-small words w near = north-small 0 words w near (omega arith)
-
-  pub east-small : (k : ℕ) (words : List ℤ) → Written b words → natAbs (closure (line east b)) ≤ 26000 → k ≤ b .legs
-      → natAbs (getD words (2 * k + 1) (pos 0)) < 2 ^ 40
-  east-small k words w near h = place-small east k near h _ (w .east k h)
-
-  pub first-east-small : (words : List ℤ) → Written b words → natAbs (closure (line east b)) ≤ 26000 → natAbs (getD words 1 (pos 0)) < 2 ^ 40
-  first-east-small words w near = east-small 0 words w near (omega arith)
-
-  pub offsets-next : (k : ℕ) (words first l m : List ℤ) → Written b words → k < b .legs → take (2 * k) l ≡ offsetsTo b k → length l ≡ length first → 128 ≤ length first
-      → m ≡ set (set l (2 * k) (getD words (2 * k) (pos 0) -ℤ getD words 0 (pos 0))) (2 * k + 1) (getD words (2 * k + 1) (pos 0) -ℤ getD words 1 (pos 0))
-      → take (2 * (k + 1)) m ≡ offsetsTo b (k + 1)
-  unfolding offsetsTo
-  offsets-next k words first l m w h e r s f =
-      let n : getD words (2 * k) (pos 0) -ℤ getD words 0 (pos 0) ≡ offset b north k = rw (w .north k (omega arith), w .north 0 (omega arith)) in
-      let i : getD words (2 * k + 1) (pos 0) -ℤ getD words 1 (pos 0) ≡ offset b east k = rw (w .east k (omega arith), w .east 0 (omega arith)) in
-      rw (f, n, i, take-two l k (offset b north k) (offset b east k) (omega (arith, sound .few)), e, add-one k)
-
-  module _ (near-north : natAbs (closure (line north b)) ≤ 26000) (near-east : natAbs (closure (line east b)) ≤ 26000) where
-    offsets-small : (k : ℕ) → k ≤ b .legs → small (offsetsTo b k) ≡ true
-    unfolding offsetsTo small
-    offsets-small zero h = refl
-    offsets-small (suc k) h =
-        small-append (offsetsTo b k) (offset b north k ∷ offset b east k ∷ [])
-        (small-two (offset b north k) (offset b east k) (offset-small north k near-north (omega arith)) (offset-small east k near-east (omega arith)))
-        ∙ offsets-small k (omega arith)
-
-    pub area-is : (r : Amount) (v : ℤ) (l : List ℤ) (loop : Bool) → loop ≡ isLoop b → loop ≡ true → told r ≡ areaStep l → v ≡ told r .value
-        → l ≡ offsetsTo b (b .legs) → v ≡ areaOf b
-    unfolding areaOf
-    area-is r v l loop e f t g i =
-        let n = b .legs in
-        let m = offsets-length b n in
-        let s : told r ≡ areaStep (offsetsTo b n) = rw (← i) t in
-        let count = inside-yes 2 128 (length (offsetsTo b n)) (omega (arith, m, sound .some)) (omega (arith, m, sound .few)) in
-        let even = eq-eqb (length (offsetsTo b n) % 2) 0 (omega (arith, m)) in
-        rw (← e, f) (g ∙ value-given (told r) _ _ s (both _ _ (both _ _ count even) (offsets-small n (omega arith))))
-
-    pub area-most : natAbs (areaOf b) ≤ 64 * 33800000000000000
-    unfolding areaOf
-    area-most =
-        let l = offsetsTo b (b .legs) in
-        by-test (λ (z : ℤ). natAbs z ≤ 64 * 33800000000000000) (isLoop b)
-        (λ e. omega (arith, doubled-most l (offsets-small (b .legs) (omega arith)), offsets-length b (b .legs), sound .few)) (λ e. omega arith)
+      pub area-none : looped ≡ false → pos 0 ≡ cond looped (doubled (takenFrom words n)) (pos 0)
+      area-none f = rw f

@@ -9,7 +9,7 @@ use Rattle.whole.specs.Nearest.{nearest}
 use Rattle.whole.specs.Sum.{sumTo}
 use Rattle.sines.specs.Exact.{exactSine, exactQuarter, bySeries, series, weight, unity, straight, pi, factorial}
 use Rattle.sines.specs.Quadrant.{around, turned, folded}
-use Rattle.sines.specs.Sine.{entry, between, quarterBy, sineOf}
+use Rattle.sines.specs.Sine.{entry, between, quarterBy, sineBy}
 use Rattle.steps.specs.Area.{cross, nextStation, doubledTo}
 use Rattle.steps.specs.Azimuth.{turn, misclosure, closesAngles, balanced}
 use Rattle.steps.specs.Closure.{closes, root, precision}
@@ -24,7 +24,7 @@ use Rattle.tape.specs.Fields.{fieldsOf as named}
 use Rattle.desk.specs.Line.{run, preliminary, adjusted}
 use Rattle.desk.specs.Traverse.{placed, offsetsTo, areaOf}
 use Rattle.desk.specs.Angles.{carried, misclosureOf, balancedOf, filled, balancedTraverse}
-use Rattle.desk.specs.Answer.{Told, checkedAngles, firstOf, closesOn, second, secondWords, traversed, traversedWords}
+use Rattle.desk.specs.Answer.{Told, checkedAngles, firstOf, firstFor, closesOn, second, secondWords, traversedBy, traversedWordsBy, traversed, traversedWords}
 
 -- two rows, the project, the start, four legs of a square, and the close on the same point, half a second off
 abbrev pub records : List Rec
@@ -45,7 +45,7 @@ abbrev pub answer : Told
 answer = record { number = 0; place = 0; legs = 4; w = pos 5; north = negℤ (pos 1); east = pos 2; precision = 178886; area = pos 20000200000; loop = true }
 
 pub printed-told : traversed (tapeOf records) 130 ≡ answer
-unfolding nearest sumTo exactSine exactQuarter bySeries series weight unity straight pi factorial around turned folded entry between quarterBy sineOf cross nextStation doubledTo turn misclosure closesAngles balanced closes root precision move sineAlong seaLevel combine grid share num bytes meant written table fieldsOf bodyOf numbersOf goodOf bytesOf mayCome roomOf rowNext projectNext afterOf takeOf judge stepOf walk readingOf recordsFrom tapeOf nothing putIn gathered isRow scaleOf named run preliminary adjusted placed offsetsTo areaOf carried misclosureOf balancedOf filled balancedTraverse checkedAngles firstOf closesOn second traversed
+unfolding nearest sumTo exactSine exactQuarter bySeries series weight unity straight pi factorial around turned folded entry between quarterBy sineBy cross nextStation doubledTo turn misclosure closesAngles balanced closes root precision move sineAlong seaLevel combine grid share num bytes meant written table fieldsOf bodyOf numbersOf goodOf bytesOf mayCome roomOf rowNext projectNext afterOf takeOf judge stepOf walk readingOf recordsFrom tapeOf nothing putIn gathered isRow scaleOf named run preliminary adjusted placed offsetsTo areaOf carried misclosureOf balancedOf filled balancedTraverse checkedAngles firstOf firstFor closesOn second traversedBy
 printed-told = refl
 
 -- the five stations, and behind them the words as they were lent
@@ -53,5 +53,5 @@ abbrev pub stations : List ℤ
 stations = pos 5000000 ∷ pos 200000000 ∷ pos 5100000 ∷ pos 200000000 ∷ pos 5100001 ∷ pos 200100001 ∷ pos 5000000 ∷ pos 200100000 ∷ pos 5000000 ∷ pos 200000000 ∷ []
 
 pub printed-words : (z : ℤ) → traversedWords (tapeOf records) (replicate 130 z) ≡ stations ++ replicate 120 z
-unfolding nearest sumTo exactSine exactQuarter bySeries series weight unity straight pi factorial around turned folded entry between quarterBy sineOf turn misclosure closesAngles balanced closes move sineAlong seaLevel combine grid share num bytes meant written table fieldsOf bodyOf numbersOf goodOf bytesOf mayCome roomOf rowNext projectNext afterOf takeOf judge stepOf walk readingOf recordsFrom tapeOf nothing putIn gathered isRow scaleOf named run preliminary adjusted placed carried misclosureOf balancedOf filled balancedTraverse checkedAngles firstOf closesOn secondWords traversedWords
+unfolding nearest sumTo exactSine exactQuarter bySeries series weight unity straight pi factorial around turned folded entry between quarterBy sineBy turn misclosure closesAngles balanced closes move sineAlong seaLevel combine grid share num bytes meant written table fieldsOf bodyOf numbersOf goodOf bytesOf mayCome roomOf rowNext projectNext afterOf takeOf judge stepOf walk readingOf recordsFrom tapeOf nothing putIn gathered isRow scaleOf named run preliminary adjusted placed carried misclosureOf balancedOf filled balancedTraverse checkedAngles firstOf firstFor closesOn secondWords traversedWordsBy
 printed-words z = refl

@@ -25,15 +25,19 @@ use Rattle.steps.specs.Share.{share, shareStep}
 use Rattle.desk.specs.Line.{run, preliminary, closure, adjusted}
 use Rattle.desk.specs.Traverse.{along, longOf, line, placed, isLoop, areaOf}
 use Rattle.desk.specs.Answer.{told, refused, northClosure, eastClosure, distanceRun, closesOn, second, secondWords}
-use Rattle.desk.specs.Inside.{Sound, Small, Stands, none, Ran, Closing}
+use Rattle.desk.specs.Inside.{Sound, Small, stationOf, Ran, Left, Near, Shared, putTo}
 use Rattle.whole.specs.declared.Whole.{Whole}
+use Rattle.desk.specs.declared.Answer.{Answer}
 use Rattle.desk.specs.declared.Answer.the-variants.{Adjusted}
+use Rattle.tape.specs.declared.Point.{Point}
 use Rattle.desk.specs.declared.Balanced.{Balanced}
 use Rattle.desk.specs.declared.Sums.{Sums}
 use Rattle.steps.proofs.Sharing.{share-most}
 use Rattle.steps.proofs.Laws.{product-most, square-most}
 use Rattle.desk.proofs.Compass.{run-up}
 use Rattle.desk.proofs.Running.{drift, run-most, stands-small}
+use Rattle.sines.specs.Sine.{Table, entry, entryIn}
+use Rattle.sines.proofs.Own.{Entries, own-entries}
 
 -- ---- the steps, whose input is in range
 pub within-is : (r : Verdict) (x : Bool) (n e : ℤ) (s : ℕ) → toldVerdict r ≡ closureTest n e s → passes x ≡ toldVerdict r .value
@@ -82,10 +86,10 @@ grid-least : (distance factor : ℕ) → 1000 ≤ distance → 9980000 ≤ facto
 unfolding grid
 grid-least distance factor h i = omega (arith, product-most 1000 9980000 distance factor h i)
 
-pub placed-length : (b : Balanced) (k : ℕ) (l : List ℤ) → length (placed b k l) ≡ length l
+pub placed-length : (e : ℕ → ℤ) (b : Balanced) (k : ℕ) (l : List ℤ) → length (placed e b k l) ≡ length l
 unfolding placed
-placed-length b zero l = refl
-placed-length b (suc k) l = simp length-set (placed-length b k l)
+placed-length e b zero l = refl
+placed-length e b (suc k) l = simp length-set (placed-length e b k l)
 
 module _ (b : Balanced) (sound : Sound b) where
   -- the first leg has some length
@@ -97,96 +101,142 @@ module _ (b : Balanced) (sound : Sound b) where
   run-small = omega (arith, run-most b sound (b .legs) (omega arith), sound .few)
 
   -- a traverse that passes the test
-  pub closes-near : (axis : Axis) → closesOn b ≡ true → natAbs (closure (line axis b)) ≤ 26000
+  pub closes-near : (e : ℕ → ℤ) (axis : Axis) → closesOn e b ≡ true → natAbs (closure (line e axis b)) ≤ 26000
   unfolding closesOn
-  closes-near north e = north-near (closesOn b) (northClosure b) (eastClosure b) (distanceRun b) refl e run-small
-  closes-near east e = east-near (closesOn b) (northClosure b) (eastClosure b) (distanceRun b) refl e run-small
+  closes-near e north t = north-near (closesOn e b) (northClosure e b) (eastClosure e b) (distanceRun b) refl t run-small
+  closes-near e east t = east-near (closesOn e b) (northClosure e b) (eastClosure e b) (distanceRun b) refl t run-small
 
+-- what is left, from the code's two differences
+pub left-is : (to : Point) (end c : Sums) (q r : ℤ) → q ≡ pos (to .north) → r ≡ pos (to .east) → c .north .v ≡ end .north .v -ℤ q → c .east .v ≡ end .east .v -ℤ r
+    → c .run ≡ end .run → Left to end c
+left-is to end c q r f g n e t = record { north = n ∙ rw f; east = e ∙ rw g; run = t }
+
+-- ---- the words, a station at a time
+module _ (n : ℕ) (stations : List Sums) (c : Sums) where
+  pub station-small : (k : ℕ) → Shared n stations c → k ≤ n → Small (stationOf stations k)
+  station-small k s h = s .small k h
+
+  pub station-part : (k : ℕ) → Shared n stations c → k ≤ n → stationOf stations k .run ≤ c .run
+  station-part k s h = s .part k h
+
+  put-length : (k : ℕ) (l : List ℤ) → length (putTo stations c k l) ≡ length l
+  unfolding putTo
+  put-length zero l = refl
+  put-length (suc k) l = simp length-set (put-length k l)
+
+  pub station-room : (k : ℕ) (l m : List ℤ) → Shared n stations c → m ≡ putTo stations c k l → k ≤ n → 130 ≤ length l → 2 * k + 1 < length m
+  station-room k l m s g h i = rw g (omega (arith, put-length k l, s .few))
+
+  pub put-next : (k : ℕ) (l m r : List ℤ) → m ≡ putTo stations c k l
+      → (let s = stationOf stations k in
+      r ≡ set (set m (2 * k) (s .north .v -ℤ share (c .north .v) (s .run) (c .run))) (2 * k + 1) (s .east .v -ℤ share (c .east .v) (s .run) (c .run)))
+      → r ≡ putTo stations c (k + 1) l
+  unfolding putTo
+  put-next k l m r g f = f ∙ rw (g, add-one k)
+
+  pub put-last : (k : ℕ) (l m : List ℤ) → k ≤ n + 1 → n < k → m ≡ putTo stations c k l → m ≡ putTo stations c (n + 1) l
+  put-last k l m h i g = let j : k ≡ n + 1 = omega arith in subst (λ (q : ℕ). m ≡ putTo stations c q l) j g
+
+-- ---- the end of the run
+module _ (e : ℕ → ℤ) (entries : Entries e) (b : Balanced) (sound : Sound b) where
   -- a closure is the way from start to end, less that from start to fixed end
-  closure-small : (axis : Axis) → natAbs (closure (line axis b)) ≤ 1200000000
+  closure-small : (axis : Axis) → natAbs (closure (line e axis b)) ≤ 1200000000
   closure-small axis =
-      let p = preliminary (line axis b) (b .legs) in
+      let p = preliminary (line e axis b) (b .legs) in
       let f = along axis (b .from) in
       let t = along axis (b .to) in
-      let e : p -ℤ pos t ≡ p -ℤ pos f +ℤ (pos f -ℤ pos t) = ring (p ∷ pos f ∷ pos t ∷ []) (λ v. search exps) tt in
+      let q : p -ℤ pos t ≡ p -ℤ pos f +ℤ (pos f -ℤ pos t) = ring (p ∷ pos f ∷ pos t ∷ []) (λ v. search exps) tt in
       let apart : natAbs (pos f -ℤ pos t) ≤ 1000000000 = abs-under (pos f -ℤ pos t) (search ints) (omega (arith, sound .from axis), omega (arith, sound .to axis)) in
-      rw e (omega (arith, triangle (p -ℤ pos f) (pos f -ℤ pos t), drift b sound axis (b .legs) (omega arith), apart, sound .few))
+      rw q (omega (arith, triangle (p -ℤ pos f) (pos f -ℤ pos t), drift e entries b sound axis (b .legs) (omega arith), apart, sound .few))
 
-  pub settling : (l c : Sums) (q r : ℤ) → Stands b (b .legs) l → q ≡ pos (b .to .north) → r ≡ pos (b .to .east)
-      → c .north .v ≡ l .north .v -ℤ q → c .east .v ≡ l .east .v -ℤ r → c .run ≡ l .run → Closing b c
-  settling l c q r s f g n e t =
-      let u : c .north .v ≡ closure (line north b) = rw (n, f, s .north) in
-      let v : c .east .v ≡ closure (line east b) = rw (e, g, s .east) in
-      record {
-        north = u;
-        east = v;
-        run = t ∙ s .run;
-        small-north = rw u (closure-small north);
-        small-east = rw v (closure-small east);
-        small-run = rw (t ∙ s .run) run-small;
-        far = rw (t ∙ s .run) far-run;
-      }
+  pub end-small : (stations : List Sums) → Ran e b (b .legs) stations → Small (stationOf stations (b .legs))
+  end-small stations ran = stands-small e entries b sound (b .legs) (stationOf stations (b .legs)) (omega arith) (ran .at (b .legs) (omega arith))
 
-  pub station-small : (k : ℕ) (stations : List Sums) → Ran b (b .legs) stations → k ≤ b .legs → Small (getD stations k none)
-  station-small k stations h i = stands-small b sound k (getD stations k none) i (h .at k i)
+  module _ (stations : List Sums) (c : Sums) (ran : Ran e b (b .legs) stations) (left : Left (b .to) (stationOf stations (b .legs)) c) where
+    north-is : c .north .v ≡ northClosure e b
+    north-is = rw (left .north, ran .at (b .legs) (omega arith) .north)
 
-  -- the end of the run is a station as every other
-  pub ran-end : (stations : List Sums) → Ran b (b .legs) stations → Stands b (b .legs) (getD stations (b .legs) none)
-  ran-end stations h = h .at (b .legs) (omega arith)
+    east-is : c .east .v ≡ eastClosure e b
+    east-is = rw (left .east, ran .at (b .legs) (omega arith) .east)
 
-  pub end-small : (stations : List Sums) → Ran b (b .legs) stations → Small (getD stations (b .legs) none)
-  end-small stations h = station-small (b .legs) stations h (omega arith)
+    run-is : c .run ≡ distanceRun b
+    run-is = left .run ∙ ran .at (b .legs) (omega arith) .run
 
-  -- ---- the words, a station at a time
-  pub station-room : (k : ℕ) (l m : List ℤ) → m ≡ placed b k l → k ≤ b .legs → 130 ≤ length l → 2 * k + 1 < length m
-  station-room k l m e h i = rw e (omega (arith, placed-length b k l, sound .few))
+    -- what is left is within the ranges of the test
+    pub north-small : natAbs (c .north .v) ≤ 1200000000
+    north-small = rw north-is (closure-small north)
 
-  pub run-part : (k : ℕ) (stations : List Sums) (c : Sums) → Ran b (b .legs) stations → Closing b c → k ≤ b .legs → getD stations k none .run ≤ c .run
-  run-part k stations c h w i = rw (h .at k i .run, w .run) (run-up (longOf b) k (b .legs) i)
+    pub east-small : natAbs (c .east .v) ≤ 1200000000
+    east-small = rw east-is (closure-small east)
 
-  -- what the code takes from a place is the station's share
-  adjusted-is : (axis : Axis) (k : ℕ) (p q : ℤ) (x y : ℕ) → p ≡ preliminary (line axis b) k → q ≡ closure (line axis b) → x ≡ run (longOf b) k → y ≡ run (longOf b) (b .legs)
-      → p -ℤ share q x y ≡ adjusted (line axis b) k
-  unfolding adjusted
-  adjusted-is axis k p q x y e f g h = rw (e, f, g, h)
+    pub run-far : 1 ≤ c .run
+    run-far = rw run-is (far-run b sound)
 
-  pub placed-next : (k : ℕ) (l m r : List ℤ) (stations : List Sums) (c : Sums) → Ran b (b .legs) stations → k ≤ b .legs → Closing b c → m ≡ placed b k l
-      → (let s = getD stations k none in
-      r ≡ set (set m (2 * k) (s .north .v -ℤ share (c .north .v) (s .run) (c .run))) (2 * k + 1) (s .east .v -ℤ share (c .east .v) (s .run) (c .run)))
-      → r ≡ placed b (k + 1) l
-  unfolding placed
-  placed-next k l m r stations c h i w e f =
-      let s = h .at k i in
-      f ∙ rw (e, adjusted-is north k _ _ _ _ (s .north) (w .north) (s .run) (w .run), adjusted-is east k _ _ _ _ (s .east) (w .east) (s .run) (w .run), add-one k)
+    pub run-most-left : c .run ≤ 1300000000
+    run-most-left = rw run-is (run-small b sound)
 
-  pub placed-last : (k : ℕ) (l m : List ℤ) → k ≤ b .legs + 1 → b .legs < k → m ≡ placed b k l → m ≡ placed b (b .legs + 1) l
-  placed-last k l m h i e = let j : k ≡ b .legs + 1 = omega arith in subst (λ (n : ℕ). m ≡ placed b n l) j e
+    -- every station's part of the distance run is a part of the whole
+    pub shared : Shared (b .legs) stations c
+    shared =
+        record {
+          few = sound .few;
+          room = ran .room;
+          small = λ k h. stands-small e entries b sound k (stationOf stations k) h (ran .at k h);
+          part = λ k h. rw (ran .at k h .run, run-is) (run-up (longOf b) k (b .legs) h);
+        }
 
-  -- ---- the answer, by the test
-  module _ (c : Sums) (x : Bool) (w : Closing b c) (t : x ≡ closes (c .north .v) (c .east .v) (c .run)) where
-    pub north-closes : x ≡ true → natAbs (closure (line north b)) ≤ 26000
-    north-closes e = rw (← w .north) (north-near x (c .north .v) (c .east .v) (c .run) t e (w .small-run))
+    -- and what is put is the adjusted stations
+    adjusted-is : (axis : Axis) (k : ℕ) (p q : ℤ) (x : ℕ) → p ≡ preliminary (line e axis b) k → q ≡ closure (line e axis b) → x ≡ run (longOf b) k
+        → p -ℤ share q x (c .run) ≡ adjusted (line e axis b) k
+    unfolding adjusted
+    adjusted-is axis k p q x f g h = rw (f, g, h, run-is)
 
-    pub east-closes : x ≡ true → natAbs (closure (line east b)) ≤ 26000
-    east-closes e = rw (← w .east) (east-near x (c .north .v) (c .east .v) (c .run) t e (w .small-run))
+    put-is : (k : ℕ) (l : List ℤ) → k ≤ b .legs + 1 → putTo stations c k l ≡ placed e b k l
+    unfolding putTo placed
+    put-is zero l h = refl
+    put-is (suc k) l h =
+        let s = ran .at k (omega arith) in
+        rw (put-is k l (omega arith), adjusted-is north k _ _ _ (s .north) north-is (s .run), adjusted-is east k _ _ _ (s .east) east-is (s .run))
 
-    test-is : x ≡ closesOn b
-    unfolding closesOn
-    test-is = rw (← w .north, ← w .east, ← w .run) t
+    pub put-all-is : (l m : List ℤ) → m ≡ putTo stations c (b .legs + 1) l → m ≡ placed e b (b .legs + 1) l
+    put-all-is l m g = g ∙ put-is (b .legs + 1) l (omega arith)
 
-    pub second-far : x ≡ false → refused 9 (b .place) ≡ second b
-    unfolding second
-    second-far e = rw (← test-is, e)
+    -- ---- the answer, by the test
+    module _ (x : Bool) (t : x ≡ closes (c .north .v) (c .east .v) (c .run)) where
+      pub test-is : x ≡ closesOn e b
+      unfolding closesOn
+      test-is = rw (← north-is, ← east-is, ← run-is) t
 
-    pub words-far : (l : List ℤ) → x ≡ false → l ≡ secondWords b l
-    unfolding secondWords
-    words-far l e = rw (← test-is, e)
+      pub near : x ≡ true → Near c
+      near y =
+          record {
+            north = north-near x (c .north .v) (c .east .v) (c .run) t y run-most-left;
+            east = east-near x (c .north .v) (c .east .v) (c .run) t y run-most-left;
+            far = run-far;
+            most = run-most-left;
+          }
 
-    pub second-near : (p : ℕ) (a : Whole) (o : Bool) → x ≡ true → p ≡ precision (c .north .v) (c .east .v) (c .run) → a .v ≡ areaOf b → o ≡ isLoop b
-        → told (Adjusted (b .legs) (b .w) (c .north) (c .east) p a o) ≡ second b
-    unfolding second
-    second-near p a o e f g h = rw (← test-is, e, ← w .north, ← w .east, ← w .run, ← f, ← g, ← h)
+      pub second-far : x ≡ false → refused 9 (b .place) ≡ second e b
+      unfolding second
+      second-far y = rw (← test-is, y)
 
-    pub words-near : (l m : List ℤ) → x ≡ true → m ≡ placed b (b .legs + 1) l → m ≡ secondWords b l
-    unfolding secondWords
-    words-near l m e f = rw (← test-is, e) f
+      pub words-far : (l : List ℤ) → x ≡ false → l ≡ secondWords e b l
+      unfolding secondWords
+      words-far l y = rw (← test-is, y)
+
+      pub second-near : (p : ℕ) (a : Whole) (o : Bool) → x ≡ true → p ≡ precision (c .north .v) (c .east .v) (c .run) → a .v ≡ areaOf e b → o ≡ isLoop b
+          → told (Adjusted (b .legs) (b .w) (c .north) (c .east) p a o) ≡ second e b
+      unfolding second
+      second-near p a o y f g h = rw (← test-is, y, ← north-is, ← east-is, ← run-is, ← f, ← g, ← h)
+
+      pub words-near : (l m : List ℤ) → x ≡ true → m ≡ putTo stations c (b .legs + 1) l → m ≡ secondWords e b l
+      unfolding secondWords
+      words-near l m y f = rw (← test-is, y) (put-all-is l m f)
+
+-- ---- by the desk's own table
+module _ (t : List ℕ) (right : Table t) (b : Balanced) where
+  pub own-second : (r : Answer) → told r ≡ second (entryIn t) b → told r ≡ second entry b
+  own-second r g = g ∙ ap (λ (e : ℕ → ℤ). second e b) (own-entries t right)
+
+  pub own-words : (l m : List ℤ) → m ≡ secondWords (entryIn t) b l → m ≡ secondWords entry b l
+  own-words l m g = g ∙ ap (λ (e : ℕ → ℤ). secondWords e b l) (own-entries t right)

@@ -1,4 +1,4 @@
--- Any two outcomes that the promise of `traverse` allows coincide, the answer and every lent word. What an answer tells is the whole of it: number 0 is told
+-- Any two outcomes that the promise of `traverse` or `traverse_in` allows coincide, the answer and every lent word. What an answer tells is the whole of it: number 0 is told
 -- by an adjusted traverse alone, since an accepted tape has a leg and a refusal tells none.
 use Prim.Native.Nat.{ℕ, _≤_}
 use native.Mathlib.Omega.{arith}
@@ -11,7 +11,7 @@ use lib.ListN.{length}
 use lib.IntN.{ℤ}
 use Rattle.desk.specs.declared.Answer.{Answer}
 use Rattle.desk.specs.declared.Answer.the-variants.{Refused, Adjusted}
-use Rattle.desk.specs.Answer.{Told, told, second, traversed, traversedWords}
+use Rattle.desk.specs.Answer.{Told, told, second, traversedBy, traversedWordsBy}
 use Rattle.desk.proofs.Accepted.{accepted, accepted-told, accepted-sound}
 
 -- the answer that tells it
@@ -21,20 +21,21 @@ telling t =
     (Adjusted (t .legs) (record { v = t .w }) (record { v = t .north }) (record { v = t .east }) (t .precision) (record { v = t .area }) (t .loop))
     (Refused (t .number) (t .place))
 
-module _ (tape : List ℕ) (room : ℕ) where
-  some-leg : traversed tape room .number ≡ 0 → 1 ≤ traversed tape room .legs
+module _ (e : ℕ → ℤ) (tape : List ℕ) (room : ℕ) where
+  some-leg : traversedBy e tape room .number ≡ 0 → 1 ≤ traversedBy e tape room .legs
   unfolding second
-  some-leg e = let a = accepted tape room e in rw (accepted-told tape room a, a .closes) (accepted-sound tape room a .some)
+  some-leg z = let a = accepted e tape room z in rw (accepted-told e tape room a, a .closes) (accepted-sound e tape room a .some)
 
   -- so no refusal has the number 0
-  pub refused-some : (n p : ℕ) → told (Refused n p) ≡ traversed tape room → n ≡ 0 → ⊥
+  pub refused-some : (n p : ℕ) → told (Refused n p) ≡ traversedBy e tape room → n ≡ 0 → ⊥
   refused-some n p h z = omega (arith, some-leg (ap (λ (t : Told). t .number) (sym h) ∙ z), ap (λ (t : Told). t .legs) h)
 
-  one-answer : (x : Answer) → told x ≡ traversed tape room → x ≡ telling (traversed tape room)
-  one-answer (Adjusted legs w n e p area loop) h = ap telling h
+  one-answer : (x : Answer) → told x ≡ traversedBy e tape room → x ≡ telling (traversedBy e tape room)
+  one-answer (Adjusted legs w n c p area loop) h = ap telling h
   one-answer (Refused n p) h = rw (← h, ne-eqb n 0 (refused-some n p h))
 
-pub traverse-single : (tape : List ℕ) (words l m : List ℤ) (x y : Answer)
-    → told x ≡ traversed tape (length words) → l ≡ traversedWords tape words → told y ≡ traversed tape (length words) → m ≡ traversedWords tape words
+-- `traverse`, and with the entries of a lent table `traverse_in`
+pub traverse-single : (e : ℕ → ℤ) (tape : List ℕ) (words l m : List ℤ) (x y : Answer)
+    → told x ≡ traversedBy e tape (length words) → l ≡ traversedWordsBy e tape words → told y ≡ traversedBy e tape (length words) → m ≡ traversedWordsBy e tape words
     → (x ≡ y) × (l ≡ m)
-traverse-single tape words l m x y e f g h = (one-answer tape (length words) x e ∙ sym (one-answer tape (length words) y g), f ∙ sym h)
+traverse-single e tape words l m x y c f g h = (one-answer e tape (length words) x c ∙ sym (one-answer e tape (length words) y g), f ∙ sym h)

@@ -5,7 +5,8 @@ use native.Mathlib.Omega.{arith}
 use mathlib.Core.Path.{_≡_, refl, sym, _∙_, ap}
 use mathlib.Core.Bool.{Bool, true, false}
 use mathlib.Core.List.{List}
-use borrow.Author.Tests.{lt-ltb, le-ltb}
+use borrow.Author.Tests.{lt-ltb, le-ltb, ltb-false}
+use lib.Dec.{ltb}
 use lib.ListN.{length}
 use lib.IntN.{ℤ, pos, negℤ}
 use lib.Signed.{leZ}
@@ -19,14 +20,14 @@ use Rattle.tape.specs.declared.State.{State}
 use Rattle.tape.specs.declared.Taken.{Taken}
 use Rattle.tape.specs.Tape.{readingOf}
 use Rattle.tape.specs.Fields.{fieldsOf, takenIf, takenOf, DoesRead}
-use Rattle.tape.proofs.Branch.{T-true, by-test}
+use Rattle.whole.proofs.Branch.{T-true, by-test}
 use Rattle.tape.proofs.Held.{Ranged, ranged}
 use Rattle.desk.specs.declared.Answer.{Answer}
 use Rattle.desk.specs.declared.Balanced.{Balanced}
 use Rattle.desk.specs.declared.Checked.the-variants.{Refused, Good}
 use Rattle.desk.specs.declared.First.{First}
 use Rattle.desk.specs.Angles.{misclosureOf, balancedTraverse}
-use Rattle.desk.specs.Answer.{told, unbalanced, refusedFirst, checkedAngles, firstIf, firstOf, refused, second, secondWords, traversed, traversedWords}
+use Rattle.desk.specs.Answer.{told, unbalanced, refusedFirst, checkedAngles, firstIf, firstOf, firstFor, refused, second, secondWords, traversedBy, traversedWordsBy}
 use Rattle.desk.specs.Traverse.{along}
 use Rattle.desk.specs.Inside.{Ready, Sound}
 use Rattle.desk.proofs.Balancing.{sound-of}
@@ -99,47 +100,57 @@ module _ (tape : List ℕ) (t : Taken) (e : t ≡ takenOf tape) where
       taken-is (λ u. u .reading ≡ reading.Reads a → r ≡ checkedAngles (u .fields) → r ≡ firstOf tape) (λ b h i j. rw h j)
       (λ n p h i j. let z : _≡_ {A = ℕ} 0 1 = cc in absurd (omega arith))
 
--- a step that does not refuse leaves a traverse in range to the next
-abbrev Leaves : First → Type 0
-Leaves x = x .checked ≡ Good → Sound (x .balanced)
+-- a step that does not refuse leaves a traverse in range to the next, and has found room
+abbrev Leaves : ℕ → First → Type 0
+Leaves room x = x .checked ≡ Good → Sound (x .balanced) × (130 ≤ room)
 
-pub first-sound : (tape : List ℕ) (a : First) → a ≡ firstOf tape → Leaves a
-unfolding firstOf checkedAngles
-first-sound tape a e = rw e (go (readingOf tape) refl)
+first-leaves : (tape : List ℕ) (room : ℕ) → Leaves room (firstFor tape room)
+unfolding firstFor firstOf checkedAngles
+first-leaves tape room = by-test (Leaves room) (ltb room 130) (λ few. bad 1 0) (λ wide. go (readingOf tape) refl (ltb-false room 130 wide))
   where
-    bad : (n p : ℕ) → Leaves (refusedFirst n p)
+    bad : (n p : ℕ) → Leaves room (refusedFirst n p)
     bad n p h = let z : _≡_ {A = ℕ} 0 1 = cc in absurd (omega arith)
 
-    go : (r : Reading) → readingOf tape ≡ r → Leaves (firstIf r (fieldsOf tape))
-    go (reading.Refused n p) h = bad n p
-    go (reading.Reads s) h = by-test Leaves (closesAngles _ _) (λ c i. sound-of (fieldsOf tape) (tape-ready tape (record { last = s; reads = h }))) (λ c. bad _ _)
+    go : (r : Reading) → readingOf tape ≡ r → 130 ≤ room → Leaves room (firstIf r (fieldsOf tape))
+    go (reading.Refused n p) h wide = bad n p
+    go (reading.Reads s) h wide =
+        by-test (Leaves room) (closesAngles _ _) (λ c i. (sound-of (fieldsOf tape) (tape-ready tape (record { last = s; reads = h })), wide)) (λ c. bad _ _)
 
--- ---- the whole
-module _ (tape : List ℕ) (words : List ℤ) where
-  module _ (few : length words < 130) where
-    pub short-told : refused 1 0 ≡ traversed tape (length words)
-    unfolding traversed
-    short-told = rw (lt-ltb (length words) 130 few)
+module _ (tape : List ℕ) (room : ℕ) (a : First) (e : a ≡ firstFor tape room) (h : a .checked ≡ Good) where
+  leaves : Sound (a .balanced) × (130 ≤ room)
+  leaves = rw (← e) at (first-leaves tape room) h
 
-    pub short-words : words ≡ traversedWords tape words
-    unfolding traversedWords
-    short-words = rw (lt-ltb (length words) 130 few)
+  pub first-sound : Sound (a .balanced)
+  first-sound = leaves .0
 
-  module _ (room : 130 ≤ length words) (a : First) (e : a ≡ firstOf tape) where
-    module _ (n p : ℕ) (h : a .checked ≡ Refused n p) where
-      pub refused-told : refused n p ≡ traversed tape (length words)
-      unfolding traversed
-      refused-told = rw (le-ltb (length words) 130 room, ← e, h)
+  pub first-room : 130 ≤ room
+  first-room = leaves .1
 
-      pub refused-words : words ≡ traversedWords tape words
-      unfolding traversedWords
-      refused-words = rw (le-ltb (length words) 130 room, ← e, h)
+-- ---- refusal 1, then the first step
+pub first-short : (tape : List ℕ) (room : ℕ) (r : First) → r ≡ refusedFirst 1 0 → room < 130 → r ≡ firstFor tape room
+unfolding firstFor
+first-short tape room r e few = rw (lt-ltb room 130 few) e
 
-    module _ (h : a .checked ≡ Good) where
-      pub good-told : (r : Answer) → told r ≡ second (a .balanced) → told r ≡ traversed tape (length words)
-      unfolding traversed
-      good-told r g = rw (le-ltb (length words) 130 room, ← e, h) g
+pub first-wide : (tape : List ℕ) (room : ℕ) (r : First) → r ≡ firstOf tape → 130 ≤ room → r ≡ firstFor tape room
+unfolding firstFor
+first-wide tape room r e wide = rw (le-ltb room 130 wide) e
 
-      pub good-words : (l : List ℤ) → l ≡ secondWords (a .balanced) words → l ≡ traversedWords tape words
-      unfolding traversedWords
-      good-words l g = rw (le-ltb (length words) 130 room, ← e, h) g
+-- ---- the whole, by any table of sines
+module _ (e : ℕ → ℤ) (tape : List ℕ) (words : List ℤ) (a : First) (f : a ≡ firstFor tape (length words)) where
+  module _ (n p : ℕ) (h : a .checked ≡ Refused n p) where
+    pub refused-told : refused n p ≡ traversedBy e tape (length words)
+    unfolding traversedBy
+    refused-told = rw (← f, h)
+
+    pub refused-words : words ≡ traversedWordsBy e tape words
+    unfolding traversedWordsBy
+    refused-words = rw (← f, h)
+
+  module _ (h : a .checked ≡ Good) where
+    pub good-told : (r : Answer) → told r ≡ second e (a .balanced) → told r ≡ traversedBy e tape (length words)
+    unfolding traversedBy
+    good-told r g = rw (← f, h) g
+
+    pub good-words : (l : List ℤ) → l ≡ secondWords e (a .balanced) words → l ≡ traversedWordsBy e tape words
+    unfolding traversedWordsBy
+    good-words l g = rw (← f, h) g

@@ -5,6 +5,7 @@ use Prim.Native.Nat.{ℕ, _+_}
 use lib.Dec.{ltb}
 use lib.ListN.{length}
 use lib.IntN.{ℤ, pos}
+use Rattle.sines.specs.Sine.{entry}
 use Rattle.steps.specs.Azimuth.{closesAngles}
 use Rattle.steps.specs.Closure.{closes, precision}
 use Rattle.steps.specs.Course.{north, east}
@@ -72,50 +73,61 @@ firstIf (reading.Reads st) f = checkedAngles f
 unfoldable pub firstOf : List ℕ → First
 firstOf tape = firstIf (readingOf tape) (fieldsOf tape)
 
--- ---- the second step: 9 at the close, or the adjusted traverse
-abbrev pub northClosure : Balanced → ℤ
-northClosure b = closure (line north b)
+-- "Refusal 1 is tried first", for under 130 words
+unfoldable pub firstFor : List ℕ → ℕ → First
+firstFor tape room = cond (ltb room 130) (refusedFirst 1 0) (firstOf tape)
 
-abbrev pub eastClosure : Balanced → ℤ
-eastClosure b = closure (line east b)
+-- ---- the second step, by the entries e of a table of sines: 9 at the close, or the adjusted traverse
+abbrev pub northClosure : (ℕ → ℤ) → Balanced → ℤ
+northClosure e b = closure (line e north b)
+
+abbrev pub eastClosure : (ℕ → ℤ) → Balanced → ℤ
+eastClosure e b = closure (line e east b)
 
 abbrev pub distanceRun : Balanced → ℕ
 distanceRun b = run (longOf b) (b .legs)
 
-unfoldable pub closesOn : Balanced → Bool
-closesOn b = closes (northClosure b) (eastClosure b) (distanceRun b)
+unfoldable pub closesOn : (ℕ → ℤ) → Balanced → Bool
+closesOn e b = closes (northClosure e b) (eastClosure e b) (distanceRun b)
 
-unfoldable pub second : Balanced → Told
-second b =
-    cond (closesOn b)
+unfoldable pub second : (ℕ → ℤ) → Balanced → Told
+second e b =
+    cond (closesOn e b)
     (record {
       number = 0;
       place = 0;
       legs = b .legs;
       w = b .w .v;
-      north = northClosure b;
-      east = eastClosure b;
-      precision = precision (northClosure b) (eastClosure b) (distanceRun b);
-      area = areaOf b;
+      north = northClosure e b;
+      east = eastClosure e b;
+      precision = precision (northClosure e b) (eastClosure e b) (distanceRun b);
+      area = areaOf e b;
       loop = isLoop b;
     })
     (refused 9 (b .place))
 
 -- "Accepted coordinates go to a lent list of signed 64-bit words"; on a refusal "lent memory is untouched"
-unfoldable pub secondWords : Balanced → List ℤ → List ℤ
-secondWords b words = cond (closesOn b) (placed b (b .legs + 1) words) words
+unfoldable pub secondWords : (ℕ → ℤ) → Balanced → List ℤ → List ℤ
+secondWords e b words = cond (closesOn e b) (placed e b (b .legs + 1) words) words
 
--- ---- the whole: "Refusal 1 is tried first", for under 130 words; then the first step, then the second
-abbrev pub afterFirst : Checked → Balanced → Told
-afterFirst (checked.Refused n p) b = refused n p
-afterFirst checked.Good b = second b
+-- ---- the whole: the first step, then the second
+abbrev pub afterFirst : (ℕ → ℤ) → Checked → Balanced → Told
+afterFirst e (checked.Refused n p) b = refused n p
+afterFirst e checked.Good b = second e b
 
-unfoldable pub traversed : List ℕ → ℕ → Told
-traversed tape room = cond (ltb room 130) (refused 1 0) (afterFirst (firstOf tape .checked) (firstOf tape .balanced))
+unfoldable pub traversedBy : (ℕ → ℤ) → List ℕ → ℕ → Told
+traversedBy e tape room = let a = firstFor tape room in afterFirst e (a .checked) (a .balanced)
 
-abbrev pub wordsAfterFirst : Checked → Balanced → List ℤ → List ℤ
-wordsAfterFirst (checked.Refused n p) b words = words
-wordsAfterFirst checked.Good b words = secondWords b words
+abbrev pub wordsAfterFirst : (ℕ → ℤ) → Checked → Balanced → List ℤ → List ℤ
+wordsAfterFirst e (checked.Refused n p) b words = words
+wordsAfterFirst e checked.Good b words = secondWords e b words
 
-unfoldable pub traversedWords : List ℕ → List ℤ → List ℤ
-traversedWords tape words = cond (ltb (length words) 130) words (wordsAfterFirst (firstOf tape .checked) (firstOf tape .balanced) words)
+unfoldable pub traversedWordsBy : (ℕ → ℤ) → List ℕ → List ℤ → List ℤ
+traversedWordsBy e tape words = let a = firstFor tape (length words) in wordsAfterFirst e (a .checked) (a .balanced) words
+
+-- ---- the paper's traverse: by the entries of its own table
+abbrev pub traversed : List ℕ → ℕ → Told
+traversed tape room = traversedBy entry tape room
+
+abbrev pub traversedWords : List ℕ → List ℤ → List ℤ
+traversedWords tape words = traversedWordsBy entry tape words

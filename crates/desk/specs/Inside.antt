@@ -1,19 +1,22 @@
 -- What the private functions promise one another: the ranges of a balanced traverse, and what the sums hold at a station. The public promises do not
 -- mention any of it.
-use Prim.Native.Nat.{ℕ, _+_, _*_, _^_, _≤_, _<_}
+use Prim.Native.Nat.{ℕ, zero, suc, _+_, _*_, _^_, _≤_, _<_}
 use mathlib.Core.Path.{_≡_}
 use mathlib.Core.Bool.{true, _&&_}
-use mathlib.Core.List.{List}
-use lib.ListN.{length, getD}
-use lib.IntN.{ℤ, pos, negℤ, natAbs, _+ℤ_}
+use mathlib.Core.List.{List, [], _∷_, _++_}
+use lib.ListN.{length, getD, set}
+use lib.IntN.{ℤ, pos, negℤ, natAbs, _+ℤ_, _-ℤ_}
 use lib.Signed.{leZ}
 use Rattle.sines.specs.Quadrant.{circle}
+use Rattle.steps.specs.Area.{small as Area·small}
 use Rattle.steps.specs.Course.{Axis, north, east, course}
 use Rattle.steps.specs.Distance.{grid}
+use Rattle.steps.specs.Share.{share}
 use Rattle.desk.specs.Angles.{angleAt}
-use Rattle.desk.specs.Line.{run, preliminary, closure, adjusted}
+use Rattle.desk.specs.Line.{run, preliminary}
 use Rattle.desk.specs.Traverse.{along, longOf, azimuthOf, line}
 use Rattle.tape.specs.declared.Fields.{Fields}
+use Rattle.tape.specs.declared.Point.{Point}
 use Rattle.desk.specs.declared.Balanced.{Balanced}
 use Rattle.desk.specs.declared.Sums.{Sums}
 
@@ -52,10 +55,10 @@ pub record Sound (b : Balanced) : Type 0 where
   pub from : (axis : Axis) → along axis (b .from) ≤ 1000000000
   pub to : (axis : Axis) → along axis (b .to) ≤ 1000000000
 
--- r is s, one leg on
-pub record Advanced (s : Sums) (factor distance azimuth : ℕ) (r : Sums) : Type 0 where
-  pub north : r .north .v ≡ s .north .v +ℤ course north (grid distance factor) azimuth
-  pub east : r .east .v ≡ s .east .v +ℤ course east (grid distance factor) azimuth
+-- r is s, one leg on, by the entries e of a table of sines
+pub record Advanced (e : ℕ → ℤ) (s : Sums) (factor distance azimuth : ℕ) (r : Sums) : Type 0 where
+  pub north : r .north .v ≡ s .north .v +ℤ course e north (grid distance factor) azimuth
+  pub east : r .east .v ≡ s .east .v +ℤ course e east (grid distance factor) azimuth
   pub run : r .run ≡ s .run + grid distance factor
 
 -- sums that leave room for a leg more
@@ -65,31 +68,62 @@ pub record Small (s : Sums) : Type 0 where
   pub run : s .run < 2 ^ 40
 
 -- s holds what is summed at station k: both preliminary places and the distance run
-pub record Stands (b : Balanced) (k : ℕ) (s : Sums) : Type 0 where
-  pub north : s .north .v ≡ preliminary (line north b) k
-  pub east : s .east .v ≡ preliminary (line east b) k
+pub record Stands (e : ℕ → ℤ) (b : Balanced) (k : ℕ) (s : Sums) : Type 0 where
+  pub north : s .north .v ≡ preliminary (line e north b) k
+  pub east : s .east .v ≡ preliminary (line e east b) k
   pub run : s .run ≡ run (longOf b) k
 
 -- the list holds what is summed at the stations up to n
 abbrev pub none : Sums
 none = record { north = record { v = pos 0 }; east = record { v = pos 0 }; run = 0 }
 
-pub record Ran (b : Balanced) (n : ℕ) (stations : List Sums) : Type 0 where
+abbrev pub stationOf : List Sums → ℕ → Sums
+stationOf stations k = getD stations k none
+
+pub record Ran (e : ℕ → ℤ) (b : Balanced) (n : ℕ) (stations : List Sums) : Type 0 where
   pub room : length stations ≡ 65
-  pub at : (k : ℕ) → k ≤ n → Stands b k (getD stations k none)
+  pub at : (k : ℕ) → k ≤ n → Stands e b k (stationOf stations k)
 
--- c holds both closures and the whole distance run
-pub record Closing (b : Balanced) (c : Sums) : Type 0 where
-  pub north : c .north .v ≡ closure (line north b)
-  pub east : c .east .v ≡ closure (line east b)
-  pub run : c .run ≡ run (longOf b) (b .legs)
-  pub small-north : natAbs (c .north .v) ≤ 1200000000
-  pub small-east : natAbs (c .east .v) ≤ 1200000000
-  pub small-run : c .run ≤ 1300000000
+-- c is what is left at the end of the line: the sums there, less the fixed end
+pub record Left (to : Point) (end c : Sums) : Type 0 where
+  pub north : c .north .v ≡ end .north .v -ℤ pos (to .north)
+  pub east : c .east .v ≡ end .east .v -ℤ pos (to .east)
+  pub run : c .run ≡ end .run
+
+-- closures and distance run, within the limit and within the ranges of the share rule
+pub record Near (c : Sums) : Type 0 where
+  pub north : natAbs (c .north .v) ≤ 26000
+  pub east : natAbs (c .east .v) ≤ 26000
   pub far : 1 ≤ c .run
+  pub most : c .run ≤ 1300000000
 
--- the words hold northing, then easting, of every adjusted station
-pub record Written (b : Balanced) (words : List ℤ) : Type 0 where
+-- stations 0 to n whose shares of these closures can be taken
+pub record Shared (n : ℕ) (stations : List Sums) (c : Sums) : Type 0 where
+  pub few : n ≤ 64
+  pub room : length stations ≡ 65
+  pub small : (k : ℕ) → k ≤ n → Small (stationOf stations k)
+  pub part : (k : ℕ) → k ≤ n → stationOf stations k .run ≤ c .run
+
+-- the words with the first k stations put in, each less its share of the closures
+unfoldable pub putTo : List Sums → Sums → ℕ → List ℤ → List ℤ
+putTo stations c zero words = words
+putTo stations c (suc k) words =
+    let s = stationOf stations k in
+    set (set (putTo stations c k words) (2 * k) (s .north .v -ℤ share (c .north .v) (s .run) (c .run))) (2 * k + 1) (s .east .v -ℤ share (c .east .v) (s .run) (c .run))
+
+-- the first k stations of the words, northing, then easting, taken from the first
+abbrev pub wordAt : List ℤ → ℕ → ℤ
+wordAt words i = getD words i (pos 0)
+
+unfoldable pub takenFrom : List ℤ → ℕ → List ℤ
+takenFrom words zero = []
+takenFrom words (suc k) = takenFrom words k ++ ((wordAt words (2 * k) -ℤ wordAt words 0) ∷ (wordAt words (2 * k + 1) -ℤ wordAt words 1) ∷ [])
+
+-- words of n stations within the ranges of the area step
+pub record Placed (n : ℕ) (words : List ℤ) : Type 0 where
+  pub some : 1 ≤ n
+  pub few : n ≤ 64
   pub room : 130 ≤ length words
-  pub north : (k : ℕ) → k ≤ b .legs → getD words (2 * k) (pos 0) ≡ adjusted (line north b) k
-  pub east : (k : ℕ) → k ≤ b .legs → getD words (2 * k + 1) (pos 0) ≡ adjusted (line east b) k
+  pub north : (k : ℕ) → k < n → natAbs (wordAt words (2 * k)) < 2 ^ 40
+  pub east : (k : ℕ) → k < n → natAbs (wordAt words (2 * k + 1)) < 2 ^ 40
+  pub near : Area·small (takenFrom words n) ≡ true

@@ -23,14 +23,14 @@ longOf b k = grid (getD (b .distances) k 0) (b .factor)
 abbrev pub azimuthOf : Balanced → ℕ → ℕ
 azimuthOf b k = getD (b .azimuths) k 0
 
--- one coordinate of the traverse
-abbrev pub line : Axis → Balanced → Line
-line axis b =
+-- one coordinate of the traverse, by the entries e of a table of sines
+abbrev pub line : (ℕ → ℤ) → Axis → Balanced → Line
+line e axis b =
     record {
       from = pos (along axis (b .from));
       to = pos (along axis (b .to));
       legs = b .legs;
-      move = λ (k : ℕ). course axis (longOf b k) (azimuthOf b k);
+      move = λ (k : ℕ). course e axis (longOf b k) (azimuthOf b k);
       long = longOf b;
     }
 
@@ -39,21 +39,21 @@ abbrev pub at : Axis → ℕ → ℕ
 at north k = 2 * k
 at east k = 2 * k + 1
 
-unfoldable pub placed : Balanced → ℕ → List ℤ → List ℤ
-placed b zero words = words
-placed b (suc k) words = set (set (placed b k words) (at north k) (adjusted (line north b) k)) (at east k) (adjusted (line east b) k)
+unfoldable pub placed : (ℕ → ℤ) → Balanced → ℕ → List ℤ → List ℤ
+placed e b zero words = words
+placed e b (suc k) words = set (set (placed e b k words) (at north k) (adjusted (line e north b) k)) (at east k) (adjusted (line e east b) k)
 
 -- "coordinates taken from station 0": northing, then easting, of the first k stations
-abbrev pub offset : Balanced → Axis → ℕ → ℤ
-offset b axis k = adjusted (line axis b) k -ℤ adjusted (line axis b) 0
+abbrev pub offset : (ℕ → ℤ) → Balanced → Axis → ℕ → ℤ
+offset e b axis k = adjusted (line e axis b) k -ℤ adjusted (line e axis b) 0
 
-unfoldable pub offsetsTo : Balanced → ℕ → List ℤ
-offsetsTo b zero = []
-offsetsTo b (suc k) = offsetsTo b k ++ (offset b north k ∷ offset b east k ∷ [])
+unfoldable pub offsetsTo : (ℕ → ℤ) → Balanced → ℕ → List ℤ
+offsetsTo e b zero = []
+offsetsTo e b (suc k) = offsetsTo e b k ++ (offset e b north k ∷ offset e b east k ∷ [])
 
 -- "for tapes whose two fixed points have equal coordinates: the sum round stations 0 to n-1"; "Otherwise 0 and marked as no loop"
 abbrev pub isLoop : Balanced → Bool
 isLoop b = eqb (b .from .north) (b .to .north) && eqb (b .from .east) (b .to .east)
 
-unfoldable pub areaOf : Balanced → ℤ
-areaOf b = cond (isLoop b) (doubled (offsetsTo b (b .legs))) (pos 0)
+unfoldable pub areaOf : (ℕ → ℤ) → Balanced → ℤ
+areaOf e b = cond (isLoop b) (doubled (offsetsTo e b (b .legs))) (pos 0)

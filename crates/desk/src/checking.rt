@@ -8,7 +8,7 @@ use tape::Point;
 use tape::Reading;
 use whole::Whole;
 ghost use mathlib.Core.Path.{_≡_};
-ghost use Rattle.desk.specs.Answer.{unbalanced, refusedFirst, checkedAngles, firstOf};
+ghost use Rattle.desk.specs.Answer.{unbalanced, refusedFirst, checkedAngles, firstOf, firstFor};
 ghost use Rattle.desk.specs.Inside.{Ready};
 
 fn none() -> Balanced
@@ -51,7 +51,7 @@ fn check_angles(f: Fields) -> First
     refuse(8, f.place)
 }
 
-pub fn first(tape: &[u8]) -> First
+fn first(tape: &[u8]) -> First
     ensures { λ r. ⌜ r ≡ firstOf (now (tape .entry)) ⌝ }
 {
     let t = tape::take(tape);
@@ -60,4 +60,14 @@ pub fn first(tape: &[u8]) -> First
         Reading::Refused { number, place } => refuse(number, place),
         Reading::Reads(_st) => check_angles(t.fields),
     }
+}
+
+// Refusal 1 is tried before all, for a caller who lends so many words.
+pub fn first_for(tape: &[u8], room: usize) -> First
+    ensures { λ r. ⌜ r ≡ firstFor (now (tape .entry)) room ⌝ }
+{
+    if room < 130 {
+        return refuse(1, 0);
+    }
+    first(tape)
 }

@@ -5,7 +5,7 @@ use whole::Whole;
 ghost use mathlib.Core.Path.{_≡_};
 ghost use Prim.Native.Nat.{_≤_, _<_};
 ghost use lib.IntN.{natAbs};
-ghost use Rattle.sines.specs.Sine.{Table};
+ghost use Rattle.sines.specs.Sine.{entryIn};
 ghost use Rattle.steps.specs.Course.{north, east, course};
 ghost use Rattle.steps.specs.Distance.{grid};
 ghost use Rattle.desk.specs.Inside.{LegSound, Sound, Small, Advanced, Ran};
@@ -20,18 +20,16 @@ fn grid_distance(distance: u32, factor: u32) -> u64
 }
 
 fn latitude(table: &[u32; 5401], distance: u64, azimuth: u32) -> Whole
-    requires { ⌜ Table (now table) ⌝ }
     requires { ⌜ (distance ≤ 20100000) × (azimuth < 12960000) ⌝ }
-    ensures is { λ r. ⌜ r .v ≡ course north distance azimuth ⌝ }
+    ensures is { λ r. ⌜ r .v ≡ course (entryIn (now (table .entry))) north distance azimuth ⌝ }
     ensures size { λ r. ⌜ natAbs (r .v) ≤ 2010000 ⌝ }
 {
     steps::course::latitude_in(table, distance, azimuth).value()
 }
 
 fn departure(table: &[u32; 5401], distance: u64, azimuth: u32) -> Whole
-    requires { ⌜ Table (now table) ⌝ }
     requires { ⌜ (distance ≤ 20100000) × (azimuth < 12960000) ⌝ }
-    ensures is { λ r. ⌜ r .v ≡ course east distance azimuth ⌝ }
+    ensures is { λ r. ⌜ r .v ≡ course (entryIn (now (table .entry))) east distance azimuth ⌝ }
     ensures size { λ r. ⌜ natAbs (r .v) ≤ 2010000 ⌝ }
 {
     steps::course::departure_in(table, distance, azimuth).value()
@@ -39,10 +37,9 @@ fn departure(table: &[u32; 5401], distance: u64, azimuth: u32) -> Whole
 
 // One leg on.
 fn advance(table: &[u32; 5401], s: Sums, factor: u32, distance: u32, azimuth: u32) -> Sums
-    requires { ⌜ Table (now table) ⌝ }
     requires { ⌜ LegSound factor distance azimuth ⌝ }
     requires { ⌜ Small s ⌝ }
-    ensures { λ r. ⌜ Advanced s factor distance azimuth r ⌝ }
+    ensures { λ r. ⌜ Advanced (entryIn (now (table .entry))) s factor distance azimuth r ⌝ }
 {
     let long = grid_distance(distance, factor);
     let north = s.north.plus(latitude(table, long, azimuth));
@@ -56,9 +53,8 @@ fn advance(table: &[u32; 5401], s: Sums, factor: u32, distance: u32, azimuth: u3
 
 // What is summed at every station.
 pub fn run_all(table: &[u32; 5401], b: Balanced) -> [Sums; 65]
-    requires { ⌜ Table (now table) ⌝ }
     requires { ⌜ Sound b ⌝ }
-    ensures { λ r. ⌜ Ran b (b .legs) r ⌝ }
+    ensures { λ r. ⌜ Ran (entryIn (now (table .entry))) b (b .legs) r ⌝ }
 {
     let mut s = Sums {
         north: Whole::of_size(b.from.north as u64),

@@ -3,7 +3,8 @@ use tape::Point;
 use whole::Whole;
 ghost use mathlib.Core.Path.{_≡_};
 ghost use lib.ListN.{length};
-ghost use Rattle.desk.specs.Answer.{told, traversed, traversedWords};
+ghost use Rattle.sines.specs.Sine.{entryIn};
+ghost use Rattle.desk.specs.Answer.{told, traversed, traversedWords, traversedBy, traversedWordsBy};
 
 // A traverse whose angles are balanced: the misclosure W, the balanced azimuth and the measured distance of each leg, the combined factor, the two fixed
 // points, and the place of the close. No latitude, departure or place of a station stands in it.
@@ -61,21 +62,28 @@ mod legs;
 mod places;
 mod second;
 
-// The whole: a tape in, an adjusted traverse out. Refusal 1 is tried before all, and no word is written on a refusal.
+// The whole: a tape in, an adjusted traverse out. No word is written on a refusal.
 pub fn traverse(tape: &[u8], words: &mut [i64]) -> Answer
     ensures answer { λ r. ⌜ told r ≡ traversed (now (tape .entry)) (length (now (words .entry))) ⌝ }
     ensures words { λ r. ⌜ now (words .exit) ≡ traversedWords (now (tape .entry)) (now (words .entry)) ⌝ }
 {
-    if words.len() < 130 {
-        return Answer::Refused {
-            number: 1,
-            place: 0,
-        };
-    }
-    let a = checking::first(tape);
+    let a = checking::first_for(tape, words.len());
     let checked = a.checked;
     match checked {
         Checked::Refused { number, place } => Answer::Refused { number, place },
         Checked::Good => second::with_table(a.balanced, words),
+    }
+}
+
+// The same by the sines of a lent table, whatever it holds: for a caller who works many tapes, and takes the desk's own table once.
+pub fn traverse_in(table: &[u32; 5401], tape: &[u8], words: &mut [i64]) -> Answer
+    ensures answer { λ r. ⌜ told r ≡ traversedBy (entryIn (now (table .entry))) (now (tape .entry)) (length (now (words .entry))) ⌝ }
+    ensures words { λ r. ⌜ now (words .exit) ≡ traversedWordsBy (entryIn (now (table .entry))) (now (tape .entry)) (now (words .entry)) ⌝ }
+{
+    let a = checking::first_for(tape, words.len());
+    let checked = a.checked;
+    match checked {
+        Checked::Refused { number, place } => Answer::Refused { number, place },
+        Checked::Good => second::settle(table, a.balanced, words),
     }
 }

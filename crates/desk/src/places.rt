@@ -1,6 +1,6 @@
 // The closures at the end of the run, and the adjusted stations into the lent words.
-use crate::Balanced;
 use crate::Sums;
+use tape::Point;
 use whole::Whole;
 ghost use mathlib.Core.Path.{_≡_};
 ghost use Prim.Native.Nat.{_+_, _*_, _≤_, _<_, _^_};
@@ -8,18 +8,15 @@ ghost use lib.ListN.{length, set};
 ghost use lib.IntN.{natAbs, _-ℤ_};
 ghost use Rattle.steps.specs.Closure.{closes, precision};
 ghost use Rattle.steps.specs.Share.{share};
-ghost use Rattle.desk.specs.Traverse.{placed};
-ghost use Rattle.desk.specs.Inside.{Sound, Small, Stands, Ran, Closing};
+ghost use Rattle.desk.specs.Inside.{Small, Left, Near, Shared, putTo};
 
 // What is left at the end of the line.
-pub fn closing(b: Balanced, end: Sums) -> Sums
-    requires { ⌜ Sound b ⌝ }
-    requires { ⌜ Stands b (b .legs) end ⌝ }
+pub fn closing(to: Point, end: Sums) -> Sums
     requires { ⌜ Small end ⌝ }
-    ensures { λ r. ⌜ Closing b r ⌝ }
+    ensures { λ r. ⌜ Left to end r ⌝ }
 {
-    let north = end.north.minus(Whole::of_size(b.to.north as u64));
-    let east = end.east.minus(Whole::of_size(b.to.east as u64));
+    let north = end.north.minus(Whole::of_size(to.north as u64));
+    let east = end.east.minus(Whole::of_size(to.east as u64));
     Sums {
         north,
         east,
@@ -38,8 +35,7 @@ pub fn within_limit(c: Sums) -> bool
 
 // The precision number of closures within the limit.
 pub fn precision_of(c: Sums) -> u64
-    requires { ⌜ (natAbs (c .north .v) ≤ 26000) × (natAbs (c .east .v) ≤ 26000) ⌝ }
-    requires { ⌜ (1 ≤ c .run) × (c .run ≤ 1300000000) ⌝ }
+    requires { ⌜ Near c ⌝ }
     ensures { λ r. ⌜ r ≡ precision (c .north .v) (c .east .v) (c .run) ⌝ }
 {
     steps::closure::precision(c.north, c.east, c.run).value()
@@ -67,25 +63,23 @@ pub fn put(words: &mut [i64], at: usize, z: Whole)
 fn put_station(words: &mut [i64], k: usize, s: Sums, c: Sums)
     requires { ⌜ 2 * k + 1 < length (now words) ⌝ }
     requires { ⌜ Small s ⌝ }
-    requires { ⌜ (natAbs (c .north .v) ≤ 26000) × (natAbs (c .east .v) ≤ 26000) ⌝ }
-    requires { ⌜ (s .run ≤ c .run) × (1 ≤ c .run) × (c .run ≤ 1300000000) ⌝ }
+    requires { ⌜ Near c ⌝ }
+    requires { ⌜ s .run ≤ c .run ⌝ }
     ensures { λ r. ⌜ now (words .exit) ≡ set (set (now (words .entry)) (2 * k) (s .north .v -ℤ share (c .north .v) (s .run) (c .run))) (2 * k + 1) (s .east .v -ℤ share (c .east .v) (s .run) (c .run)) ⌝ }
 {
     put(words, 2 * k, adjust(s.north, c.north, s.run, c.run));
     put(words, 2 * k + 1, adjust(s.east, c.east, s.run, c.run));
 }
 
-// Every station, the closures and the whole distance known.
-pub fn put_all(b: Balanced, stations: [Sums; 65], c: Sums, words: &mut [i64])
-    requires { ⌜ Sound b ⌝ }
-    requires { ⌜ Ran b (b .legs) stations ⌝ }
-    requires { ⌜ Closing b c ⌝ }
-    requires { ⌜ (natAbs (c .north .v) ≤ 26000) × (natAbs (c .east .v) ≤ 26000) ⌝ }
+// Stations 0 to n, the closures and the whole distance known.
+pub fn put_all(n: usize, stations: [Sums; 65], c: Sums, words: &mut [i64])
+    requires { ⌜ Shared n stations c ⌝ }
+    requires { ⌜ Near c ⌝ }
     requires { ⌜ 130 ≤ length (now words) ⌝ }
-    ensures { λ r. ⌜ now (words .exit) ≡ placed b (b .legs + 1) (now (words .entry)) ⌝ }
+    ensures { λ r. ⌜ now (words .exit) ≡ putTo stations c (n + 1) (now (words .entry)) ⌝ }
 {
     let mut k: usize = 0;
-    while k <= b.legs {
+    while k <= n {
         put_station(words, k, stations[k], c);
         k = k + 1;
     }

@@ -8,25 +8,25 @@ use crate::places;
 ghost use mathlib.Core.Path.{_≡_};
 ghost use Prim.Native.Nat.{_≤_};
 ghost use lib.ListN.{length};
-ghost use Rattle.sines.specs.Sine.{Table};
+ghost use Rattle.sines.specs.Sine.{entry, entryIn};
 ghost use Rattle.desk.specs.Answer.{told, second, secondWords};
 ghost use Rattle.desk.specs.Inside.{Sound};
 
+// By the sines of a lent table.
 pub fn settle(table: &[u32; 5401], b: Balanced, words: &mut [i64]) -> Answer
-    requires { ⌜ Table (now table) ⌝ }
     requires { ⌜ Sound b ⌝ }
     requires { ⌜ 130 ≤ length (now words) ⌝ }
-    ensures answer { λ r. ⌜ told r ≡ second b ⌝ }
-    ensures words { λ r. ⌜ now (words .exit) ≡ secondWords b (now (words .entry)) ⌝ }
+    ensures answer { λ r. ⌜ told r ≡ second (entryIn (now (table .entry))) b ⌝ }
+    ensures words { λ r. ⌜ now (words .exit) ≡ secondWords (entryIn (now (table .entry))) b (now (words .entry)) ⌝ }
 {
     let stations = legs::run_all(table, b);
     let n = b.legs;
-    let c = places::closing(b, stations[n]);
+    let c = places::closing(b.to, stations[n]);
     if places::within_limit(c) {
-        places::put_all(b, stations, c, words);
+        places::put_all(n, stations, c, words);
         let precision = places::precision_of(c);
-        let area = area::area(b, words);
         let is_loop = area::is_loop(b);
+        let area = area::area(is_loop, n, words);
         let w = b.w;
         let north = c.north;
         let east = c.east;
@@ -46,12 +46,12 @@ pub fn settle(table: &[u32; 5401], b: Balanced, words: &mut [i64]) -> Answer
     }
 }
 
-// The same with the desk's own table, which is taken once for a traverse.
+// By the desk's own table, which is taken once for a traverse.
 pub fn with_table(b: Balanced, words: &mut [i64]) -> Answer
     requires { ⌜ Sound b ⌝ }
     requires { ⌜ 130 ≤ length (now words) ⌝ }
-    ensures answer { λ r. ⌜ told r ≡ second b ⌝ }
-    ensures words { λ r. ⌜ now (words .exit) ≡ secondWords b (now (words .entry)) ⌝ }
+    ensures answer { λ r. ⌜ told r ≡ second entry b ⌝ }
+    ensures words { λ r. ⌜ now (words .exit) ≡ secondWords entry b (now (words .entry)) ⌝ }
 {
     let own = sines::table();
     settle(&own, b, words)

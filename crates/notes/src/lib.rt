@@ -1,8 +1,9 @@
 // Field notes: a traverse as lines of text, turned into a tape by the proved writer of records. docs/NOTES.md has the form of the text.
 use tape::Reading;
 use tape::Written;
+ghost use mathlib.Core.Path.{_≡_};
 ghost use Prim.Native.Nat.{_≤_};
-ghost use lib.ListN.{length};
+ghost use lib.ListN.{length, take};
 ghost use Rattle.notes.specs.Noting.{Owed, textLengthOf};
 
 // The word that a line starts with.
@@ -251,4 +252,14 @@ pub fn text_of(tape: &[u8], out: &mut [u8]) -> Texted
         Reading::Reads(_st) => text_within(tape, out),
         Reading::Refused { number, place } => Texted::Refused { number, place },
     }
+}
+
+// The bytes that an answer counts: those at the front of what was lent, all of them where it has no more.
+pub fn front(room: &[u8], n: usize) -> &[u8]
+    ensures { λ r. ⌜ now r ≡ take n (now (room .entry)) ⌝ }
+{
+    if n < room.len() {
+        return &room[..n];
+    }
+    room
 }

@@ -6,21 +6,17 @@ use libc::STDOUT_FILENO;
 use notes::Fault;
 use notes::Noted;
 
-fn write_front(file: i32, room: &[u8], n: usize) {
-    if n <= room.len() {
-        io::write_all(file, &room[..n]);
-    }
-}
-
 fn tell(line: usize, fault: Fault, room: &mut [u8]) {
     let n = notes::message_of(line, fault, room);
-    write_front(STDERR_FILENO, room, n);
+    io::write_all(STDERR_FILENO, notes::front(room, n));
     io::write_all(STDERR_FILENO, b"\n");
 }
 
 fn print(text: &[u8], room: &mut [u8]) {
     match notes::tape_of(text, room) {
-        Noted::Tape(n) => write_front(STDOUT_FILENO, room, n),
+        Noted::Tape(n) => {
+            io::write_all(STDOUT_FILENO, notes::front(room, n));
+        }
         Noted::Wrong { line, fault } => tell(line, fault, room),
     }
 }

@@ -11,12 +11,12 @@ use lib.Seq.{take-all, length-take-le}
 use Rattle.tape.specs.declared.Reading.the-variants.{Refused}
 use Rattle.tape.specs.Tape.{readingOf}
 use Rattle.tape.proofs.Longest.{long-cut}
-use Rattle.desk.specs.Answer.{refused, firstOf, traversed, traversedWords}
+use Rattle.desk.specs.Answer.{refused, firstOf, firstFor, traversedBy, traversedWordsBy}
 use Rattle.page.specs.Sheet.{ownWords, printedOf, printed}
 
 -- what is printed of a tape that its reading refuses is only that refusal
 refused-printed : (tape : List ℕ) (n p : ℕ) → readingOf tape ≡ Refused n p → printed tape ≡ printedOf (refused n p) ownWords
-unfolding printed traversed traversedWords firstOf
+unfolding printed traversedBy traversedWordsBy firstFor firstOf
 refused-printed tape n p e = rw e
 
 pub enough : (tape : List ℕ) → printed (take 8192 tape) ≡ printed tape

@@ -1,40 +1,20 @@
 -- The text of a sheet never exceeds 4,096 bytes. Every number of an accepted tape is small, so that its digits are few and every line is short, and
 -- there are at most 65 stations.
-use Prim.Native.Nat.{ℕ, zero, suc, _+_, _*_, _/_, _^_, _≤_, _<_}
+use Prim.Native.Nat.{ℕ, zero, suc, _+_, _*_, _^_, _≤_, _<_}
 use native.Mathlib.Omega.{arith}
-use native.Mathlib.Nat.{lt-of-le-of-lt, div-le-self}
 use mathlib.Core.Path.{_≡_}
 use mathlib.Core.Bool.{Bool, true, false}
-use mathlib.Core.List.{List, [], _++_}
+use mathlib.Core.List.{List, []}
 use lib.ListN.{length, getD, length-append}
 use lib.IntN.{ℤ, pos, natAbs}
-use lib.Signed.{ltZ}
 use Rattle.steps.specs.Course.{Axis, north, east}
-use Rattle.tape.proofs.Branch.{by-test}
-use Rattle.desk.specs.Answer.{traversedWords}
+use Rattle.sines.proofs.Own.{Entries}
 use Rattle.desk.specs.Answer.{Told as Traversed}
 use Rattle.desk.specs.Traverse.{at}
 use Rattle.desk.proofs.Accepted.{Sized, accepted, accepted-legs, accepted-sized, word-small}
-use Rattle.page.specs.Text.{ascii, decimal, pointed, sign, amount}
-use Rattle.page.specs.Sheet.{closures, closeLine, stationLine, lineOf, stationLines, areaLine, text, textOf, ownWords, answered}
-use Rattle.page.proofs.Places.{places-most, digits-length, decimal-length}
-
--- ---- numbers
-pub decimal-most : (k n : ℕ) → n < 10 ^ suc k → length (decimal n) ≤ suc k
-decimal-most k n h = rw (decimal-length n) (places-most k n h)
-
-pointed-most : (d k n : ℕ) → n < 10 ^ suc k → length (pointed d n) ≤ 2 + k + d
-unfolding pointed
-pointed-most d k n h =
-    simp length-append
-    (omega (arith, decimal-most k (n / 10 ^ d) (lt-of-le-of-lt (div-le-self n (10 ^ d)) h), digits-length d n))
-
-amount-most : (plus : List ℕ) (d k : ℕ) (z : ℤ) → length plus ≤ 1 → natAbs z < 10 ^ suc k → length (amount plus d z) ≤ 3 + k + d
-unfolding amount sign
-amount-most plus d k z h i =
-    let n = pointed-most d k (natAbs z) i in
-    by-test (λ (l : List ℕ). length (l ++ pointed d (natAbs z)) ≤ 3 + k + d) (ltZ z (pos 0)) (λ e. omega (arith, n))
-    (λ e. omega (arith, length-append plus (pointed d (natAbs z)), n))
+use Rattle.text.specs.Text.{ascii}
+use Rattle.text.proofs.Lengths.{decimal-most, amount-most}
+use Rattle.page.specs.Sheet.{closures, closeLine, stationLine, lineOf, stationLines, areaLine, text, textOf, ownWords, answered, stations}
 
 -- ---- lines
 close-most : (w n e : ℤ) (p : ℕ) → natAbs w < 10 ^ 19 → natAbs n < 10 ^ 19 → natAbs e < 10 ^ 19 → p < 10 ^ 19 → length (closeLine w n e p) ≤ 120
@@ -79,8 +59,8 @@ text-most t words s small =
       area-most (t .area) (t .loop) (omega (arith, s .area)),
     ))
 
-pub sheet-fits : (tape : List ℕ) → answered tape .number ≡ 0 → length (textOf (answered tape) (traversedWords tape ownWords)) ≤ 4096
-sheet-fits tape e =
-    let a = accepted tape 130 e in
-    text-most (answered tape) (traversedWords tape ownWords) (accepted-sized tape 130 a)
-    (λ axis k h. word-small tape ownWords e axis k (omega (arith, accepted-legs tape 130 a)))
+pub sheet-fits : (e : ℕ → ℤ) → Entries e → (tape : List ℕ) → answered e tape .number ≡ 0 → length (textOf (answered e tape) (stations e tape)) ≤ 4096
+sheet-fits e entries tape none =
+    let a = accepted e tape 130 none in
+    text-most (answered e tape) (stations e tape) (accepted-sized e tape 130 entries a)
+    (λ axis k h. word-small e tape ownWords none entries axis k (omega (arith, accepted-legs e tape 130 a)))

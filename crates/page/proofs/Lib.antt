@@ -1,11 +1,7 @@
-pub mod Amounts
 pub mod Enough
 pub mod Fitting
 pub mod Paging
-pub mod Places
 pub mod Printed
 pub mod Printing
-pub mod Putting
-pub mod ReadBack
 pub mod Single
 pub mod Stations

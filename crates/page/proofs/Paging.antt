@@ -11,16 +11,18 @@ use lib.IntN.{ℤ}
 use Rattle.whole.specs.declared.Whole.{Whole}
 use Rattle.desk.specs.declared.Answer.{Answer}
 use Rattle.desk.specs.declared.Answer.the-variants as desk
-use Rattle.desk.specs.Answer.{traversed, traversedWords}
+use Rattle.sines.proofs.Own.{Entries}
+use Rattle.desk.specs.Answer.{traversedBy, traversedWordsBy}
 use Rattle.desk.specs.Answer.{told as toldTraverse}
 use Rattle.desk.proofs.Accepted.{accepted, accepted-sized}
 use Rattle.desk.proofs.Single.{refused-some}
+use Rattle.text.specs.Room.{Room, Put}
+use Rattle.text.proofs.Putting.{over-next, over-bytes}
 use Rattle.page.specs.declared.Page.{Page}
 use Rattle.page.specs.declared.Page.the-variants.{Refused, Text}
 use Rattle.page.specs.Sheet.{text, shown, shownBytes, ownWords, told, paged, pagedBytes, Showed}
-use Rattle.page.specs.Inside.{Room, Put, Shows}
+use Rattle.page.specs.Inside.{Shows}
 use Rattle.page.proofs.Fitting.{sheet-fits}
-use Rattle.page.proofs.Putting.{over-next, over-bytes}
 
 -- ---- an answer that can be shown
 module _ (x : Answer) (words : List ℤ) (out : List ℕ) (h : Shows x words out) where
@@ -53,23 +55,23 @@ module _ (x : Answer) (words : List ℤ) (out : List ℕ) (h : Shows x words out
       text-bytes = rw f (over-bytes out _ m k y fits)
 
 -- ---- the step
-module _ (tape out : List ℕ) where
-  pub no-room : length out < 4096 → Showed tape out out (Refused 1 0)
+module _ (e : ℕ → ℤ) (tape out : List ℕ) where
+  pub no-room : length out < 4096 → Showed e tape out out (Refused 1 0)
   unfolding paged pagedBytes
   no-room few = let b = lt-ltb (length out) 4096 few in record { answer = rw b; tells = rw b; left = rw b }
 
-  module _ (wide : 4096 ≤ length out) (words : List ℤ) (x : Answer) (e : toldTraverse x ≡ traversed tape (length ownWords)) (f : words ≡ traversedWords tape ownWords) where
-    pub shows : Shows x words out
-    shows =
+  module _ (wide : 4096 ≤ length out) (words : List ℤ) (x : Answer) (g : toldTraverse x ≡ traversedBy e tape (length ownWords)) (f : words ≡ traversedWordsBy e tape ownWords) where
+    pub shows : Entries e → Shows x words out
+    shows entries =
         record {
-          some = λ n p g. refused-some tape 130 n p (ap toldTraverse (sym g) ∙ e);
-          few = rw e (λ g. accepted-sized tape 130 (accepted tape 130 g) .legs);
-          room = rw (e, f) (λ g. omega (arith, sheet-fits tape g));
+          some = λ n p h. refused-some e tape 130 n p (ap toldTraverse (sym h) ∙ g);
+          few = rw g (λ h. accepted-sized e tape 130 entries (accepted e tape 130 h) .legs);
+          room = rw (g, f) (λ h. omega (arith, sheet-fits e entries tape h));
         }
 
-    pub showed : (m : List ℕ) (r : Page) → r ≡ shown (toldTraverse x) words → m ≡ shownBytes (toldTraverse x) words out → Showed tape out m r
+    pub showed : (m : List ℕ) (r : Page) → r ≡ shown (toldTraverse x) words → m ≡ shownBytes (toldTraverse x) words out → Showed e tape out m r
     unfolding paged pagedBytes
-    showed m r g h =
+    showed m r p h =
         let b = le-ltb (length out) 4096 wide in
-        let i : r ≡ paged tape (length out) = rw b (g ∙ rw (e, f)) in
-        record { answer = i; tells = ap told i; left = rw b (h ∙ rw (e, f)) }
+        let i : r ≡ paged e tape (length out) = rw b (p ∙ rw (g, f)) in
+        record { answer = i; tells = ap told i; left = rw b (h ∙ rw (g, f)) }

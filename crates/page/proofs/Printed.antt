@@ -7,12 +7,14 @@ use mathlib.Core.List.{List, [], _++_}
 use lib.ListN.{replicate}
 use lib.IntN.{pos}
 use Rattle.tape.specs.Tape.{walk, readingOf, tapeOf}
-use Rattle.desk.specs.Answer.{firstOf, traversed, traversedWords}
+use Rattle.desk.specs.Answer.{firstOf, firstFor, traversedBy}
+use Rattle.sines.specs.Sine.{entry}
 use Rattle.desk.specs.Answer.{Told as Traversed}
 use Rattle.desk.proofs.Printed.{records, answer, stations, printed-told, printed-words}
-use Rattle.page.specs.Text.{ascii, digits, placesIn, decimal, pointed, sign, amount}
-use Rattle.page.specs.Sheet.{closures, closeLine, stationLine, lineOf, stationLines, areaLine, text, ownWords, printedOf, printed}
-use Rattle.page.proofs.Places.{decimal-short}
+use Rattle.text.specs.Text.{ascii, digits, placesIn, decimal, pointed, sign, amount}
+use Rattle.text.proofs.Digits.{decimal-short}
+use Rattle.page.specs.Sheet.{closures, closeLine, stationLine, lineOf, stationLines, areaLine, text, printedOf, printed}
+use Rattle.page.specs.Sheet.{stations as Sheet·stations}
 
 abbrev sheet : List ℕ
 sheet =
@@ -48,8 +50,8 @@ figures =
 pub printed-sheet : printed (tapeOf records) ≡ sheet
 unfolding printed
 printed-sheet =
-    ap (λ (t : Traversed). printedOf t (traversedWords (tapeOf records) ownWords)) printed-told ∙ ap (printedOf answer) (printed-words (pos 0)) ∙ figures
+    ap (λ (t : Traversed). printedOf t (Sheet·stations entry (tapeOf records))) printed-told ∙ ap (printedOf answer) (printed-words (pos 0)) ∙ figures
 
 pub printed-refusal : printed [] ≡ ascii "REFUSED 2\n"
-unfolding traversed firstOf readingOf walk digits placesIn decimal printedOf printed
+unfolding traversedBy firstFor firstOf readingOf walk digits placesIn decimal printedOf printed
 printed-refusal = refl

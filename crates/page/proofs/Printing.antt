@@ -8,26 +8,26 @@ use borrow.Author.Tests.{lt-ltb, le-ltb}
 use lib.Dec.{eqb}
 use lib.ListN.{length, take, drop, length-append, length-take}
 use lib.IntN.{ℤ}
-use Rattle.desk.specs.Answer.{traversedWords}
+use Rattle.sines.specs.Sine.{entry}
 use Rattle.desk.specs.Answer.{Told as Traversed}
 use Rattle.desk.proofs.Accepted.{number-most}
+use Rattle.text.specs.Text.{ascii, decimal}
+use Rattle.text.specs.Room.{Room, Put}
+use Rattle.text.proofs.Lengths.{decimal-most}
+use Rattle.text.proofs.Putting.{over-next, over-bytes}
 use Rattle.page.specs.declared.Page.{Page}
 use Rattle.page.specs.declared.Page.the-variants.{Refused, Text}
-use Rattle.page.specs.Text.{ascii, decimal}
-use Rattle.page.specs.Sheet.{textOf, over, shown, shownBytes, ownWords, answered, told, paged, pagedBytes, Showed, printedOf, printed, printedIn}
-use Rattle.page.specs.Inside.{Room, Put}
-use Rattle.page.proofs.Fitting.{decimal-most}
-use Rattle.page.proofs.Putting.{over-next, over-bytes}
+use Rattle.page.specs.Sheet.{textOf, over, shown, shownBytes, answered, stations, told, paged, pagedBytes, Showed, printedOf, printed, printedIn}
 
-refusal-most : (tape : List ℕ) → length (ascii "REFUSED " ++ decimal (answered tape .number) ++ ascii "\n") ≤ 10
-refusal-most tape = simp length-append (omega (arith, decimal-most 0 (answered tape .number) (omega (arith, number-most tape 130))))
+refusal-most : (tape : List ℕ) → length (ascii "REFUSED " ++ decimal (answered entry tape .number) ++ ascii "\n") ≤ 10
+refusal-most tape = simp length-append (omega (arith, decimal-most 0 (answered entry tape .number) (omega (arith, number-most entry tape 130))))
 
 module _ (tape out : List ℕ) where
   abbrev t : Traversed
-  t = answered tape
+  t = answered entry tape
 
   abbrev words : List ℤ
-  words = traversedWords tape ownWords
+  words = stations entry tape
 
   -- ---- no room
   module _ (few : length out < 4096) where
@@ -37,7 +37,7 @@ module _ (tape out : List ℕ) where
     pub none-bytes : out ≡ over (printedIn tape (length out)) out
     none-bytes = rw (lt-ltb (length out) 4096 few)
 
-  module _ (wide : 4096 ≤ length out) (m : List ℕ) (r : Page) (s : Showed tape out m r) where
+  module _ (wide : 4096 ≤ length out) (m : List ℕ) (r : Page) (s : Showed entry tape out m r) where
     shows : r ≡ shown t words
     unfolding paged
     shows = rw (le-ltb (length out) 4096 wide) at (s .answer)

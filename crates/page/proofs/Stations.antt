@@ -10,10 +10,10 @@ use mathlib.Core.List.{List, _++_}
 use mathlib.Core.Logic.{⊎-elim}
 use lib.ListN.{length, getD, length-append}
 use lib.IntN.{ℤ, pos}
-use Rattle.page.specs.Text.{ascii, decimal, plain}
+use Rattle.text.specs.Text.{ascii, decimal, plain}
+use Rattle.text.specs.Room.{Room, Put}
+use Rattle.text.proofs.Putting.{room-first, room-then, then}
 use Rattle.page.specs.Sheet.{stationLine, lineOf, stationLines, areaLine}
-use Rattle.page.specs.Inside.{Room, Put}
-use Rattle.page.proofs.Putting.{room-first, room-then, then}
 
 module _ (words : List ℤ) where
   -- ---- the place of a station, behind its number

@@ -7,10 +7,11 @@ use lib.Dec.{ltb, eqb}
 use lib.ListN.{length, getD, drop, replicate}
 use lib.IntN.{ℤ, pos}
 use Rattle.steps.specs.Course.{north, east}
-use Rattle.desk.specs.Answer.{traversed, traversedWords}
+use Rattle.sines.specs.Sine.{entry}
+use Rattle.desk.specs.Answer.{traversedBy, traversedWordsBy}
 use Rattle.desk.specs.Answer.{Told as Traversed}
 use Rattle.desk.specs.Traverse.{at}
-use Rattle.page.specs.Text.{ascii, decimal, signed, plain}
+use Rattle.text.specs.Text.{ascii, decimal, signed, plain}
 use Rattle.page.specs.declared.Page.{Page}
 use Rattle.page.specs.declared.Page.the-variants.{Refused, Text}
 
@@ -59,14 +60,18 @@ shownBytes t words out = cond (eqb (t .number) 0) (over (textOf t words) out) ou
 abbrev pub ownWords : List ℤ
 ownWords = replicate 130 (pos 0)
 
-abbrev pub answered : List ℕ → Traversed
-answered tape = traversed tape 130
+-- by the entries e of a table of sines
+abbrev pub answered : (ℕ → ℤ) → List ℕ → Traversed
+answered e tape = traversedBy e tape 130
 
-unfoldable pub paged : List ℕ → ℕ → Page
-paged tape room = cond (ltb room 4096) (Refused 1 0) (shown (answered tape) (traversedWords tape ownWords))
+abbrev pub stations : (ℕ → ℤ) → List ℕ → List ℤ
+stations e tape = traversedWordsBy e tape ownWords
 
-unfoldable pub pagedBytes : List ℕ → List ℕ → List ℕ
-pagedBytes tape out = cond (ltb (length out) 4096) out (shownBytes (answered tape) (traversedWords tape ownWords) out)
+unfoldable pub paged : (ℕ → ℤ) → List ℕ → ℕ → Page
+paged e tape room = cond (ltb room 4096) (Refused 1 0) (shown (answered e tape) (stations e tape))
+
+unfoldable pub pagedBytes : (ℕ → ℤ) → List ℕ → List ℕ → List ℕ
+pagedBytes e tape out = cond (ltb (length out) 4096) out (shownBytes (answered e tape) (stations e tape) out)
 
 -- ---- what is told: number, place and the text's length
 pub record Told : Type 0 where
@@ -79,17 +84,17 @@ told (Refused n p) = record { number = n; place = p; length = 0 }
 told (Text n) = record { number = 0; place = 0; length = n }
 
 -- ---- what the sheet step owes: r is its answer, tells what the paper says, and out′ is what it leaves of out
-pub record Showed (tape out out′ : List ℕ) (r : Page) : Type 0 where
-  pub answer : r ≡ paged tape (length out)
-  pub tells : told r ≡ told (paged tape (length out))
-  pub left : out′ ≡ pagedBytes tape out
+pub record Showed (e : ℕ → ℤ) (tape out out′ : List ℕ) (r : Page) : Type 0 where
+  pub answer : r ≡ paged e tape (length out)
+  pub tells : told r ≡ told (paged e tape (length out))
+  pub left : out′ ≡ pagedBytes e tape out
 
 -- ---- what the program prints: the sheet, or "one line, as `REFUSED 8`"; nothing in bytes that have no room for a sheet
 unfoldable pub printedOf : Traversed → List ℤ → List ℕ
 printedOf t words = cond (eqb (t .number) 0) (textOf t words) (ascii "REFUSED " ++ decimal (t .number) ++ ascii "\n")
 
 unfoldable pub printed : List ℕ → List ℕ
-printed tape = printedOf (answered tape) (traversedWords tape ownWords)
+printed tape = printedOf (answered entry tape) (stations entry tape)
 
 abbrev pub printedIn : List ℕ → ℕ → List ℕ
 printedIn tape room = cond (ltb room 4096) [] (printed tape)

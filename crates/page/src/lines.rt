@@ -1,15 +1,14 @@
 // The lines of the sheet, each put behind the one before.
-use crate::text;
 use whole::Whole;
 ghost use mathlib.Core.Path.{_≡_};
 ghost use mathlib.Core.List.{_++_};
 ghost use Prim.Native.Nat.{_+_, _^_, _≤_};
 ghost use lib.ListN.{getD};
 ghost use lib.IntN.{pos};
-ghost use Rattle.page.specs.Text.{ascii, decimal, plain, amount};
+ghost use Rattle.text.specs.Text.{ascii, decimal, plain, amount};
+ghost use Rattle.text.specs.Room.{Room, Put};
 ghost use Rattle.page.specs.Sheet.{closures, closeLine, lineOf, stationLines, areaLine};
 ghost use Rattle.page.specs.Sheet.{text as Sheet·text};
-ghost use Rattle.page.specs.Inside.{Room, Put};
 
 // A name, and an amount behind it.
 fn put_named(

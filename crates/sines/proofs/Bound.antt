@@ -15,7 +15,7 @@ use Rattle.whole.proofs.Ring.{ring, exps}
 use Rattle.whole.proofs.Rounding.{nearest-is}
 use Rattle.sines.specs.Exact.{unity, straight, pi, factorial, weight, series, sinePowers, cosinePowers, bySeries, exactQuarter, exactSine, exactCosine, Within}
 use Rattle.sines.specs.Quadrant.{circle, folded, turned, around, ahead}
-use Rattle.sines.specs.Sine.{entry, between, quarterBy, sineOf, cosineOf, units}
+use Rattle.sines.specs.Sine.{entry, between, quarterBy, sineBy, cosineBy, units}
 use Rattle.sines.proofs.Line.{at-minute}
 use Rattle.sines.proofs.Quadrants.{first, folded-most, around-up, around-down}
 use Rattle.sines.proofs.Series.{sine-gentle, cosine-gentle, minute-chord}
@@ -153,8 +153,8 @@ quarter-near a h =
     ]
 
 -- ---- all four
-pub sine-twelve : (a : ℕ) → a < circle → Within 12 (sineOf a) (exactSine a)
-unfolding sineOf exactSine
+pub sine-twelve : (a : ℕ) → a < circle → Within 12 (sineBy entry a) (exactSine a)
+unfolding sineBy exactSine
 sine-twelve a h =
     let near = quarter-near (folded a) (folded-most a h) in
     elim (decLe a 6480000) [
@@ -171,8 +171,8 @@ sine-twelve a h =
         turn v x u = ring (v ∷ x ∷ u ∷ []) (λ w. search exps) tt
 
 -- ---- the promise of paper 01
-pub sine-near : (a : ℕ) → a < circle → Within units (sineOf a) (exactSine a)
+pub sine-near : (a : ℕ) → a < circle → Within units (sineBy entry a) (exactSine a)
 sine-near a h = omega (arith, sine-twelve a h)
 
-pub cosine-near : (a : ℕ) → Within units (cosineOf a) (exactCosine a)
+pub cosine-near : (a : ℕ) → Within units (cosineBy entry a) (exactCosine a)
 cosine-near a = sine-near (ahead a) (mod-lt (a + 3240000) (omega arith))

@@ -1,12 +1,10 @@
 -- The four quadrants: where each angle folds to, and what a sine carried round the circle is in each half.
 use mathlib.Core.Path.{_≡_, sym, _∙_, ap}
-use mathlib.Core.List.{List}
 use Prim.Native.Nat.{ℕ, _+_, _-_, _/_, _%_, _≤_, _<_}
 use native.Mathlib.Decide.{decLe}
 use native.Mathlib.Nat.{mod-lt}
 use native.Mathlib.Omega.{arith}
 use borrow.Author.Tests.{le-leb, lt-leb, lt-ltb, le-ltb}
-use lib.ListN.{getD}
 use lib.IntN.{ℤ, pos, negℤ}
 use Rattle.whole.specs.declared.Whole.{Whole}
 use Rattle.answer.specs.Told.{told}
@@ -14,7 +12,7 @@ use Rattle.answer.specs.declared.Amount.{Amount}
 use Rattle.answer.specs.declared.Amount.the-variants.{Is, OutOfRange}
 use Rattle.answer.proofs.Telling.{tells, refuses}
 use Rattle.sines.specs.Quadrant.{circle, folded, turned, around}
-use Rattle.sines.specs.Sine.{between, quarterBy, entryIn, sineIn, cosineIn, ofAngle}
+use Rattle.sines.specs.Sine.{between, quarterBy, sineBy, cosineBy, ofAngle}
 use Rattle.sines.proofs.Line.{at-minute}
 
 -- ---- folding
@@ -56,33 +54,34 @@ pub around-down : (f : ℕ → ℤ) (a : ℕ) → 6480000 < a → around f a ≡
 unfolding around turned
 around-down f a h = rw (lt-ltb 6480000 a h)
 
--- ---- the entries read in a lent table
-module _ (t : List ℕ) (a : ℕ) where
+-- ---- by any entries
+module _ (e : ℕ → ℤ) (a : ℕ) where
   -- at a whole minute any entry may stand for the next
-  any-next : (e f g : ℤ) (r : ℕ) → r ≡ 0 → between e f r ≡ between e g r
-  any-next e f g r h = rw h (at-minute e f ∙ sym (at-minute e g))
+  any-next : (x f g : ℤ) (r : ℕ) → r ≡ 0 → between x f r ≡ between x g r
+  any-next x f g r h = rw h (at-minute x f ∙ sym (at-minute x g))
 
-  pub on-minute : (v : ℤ) (n : ℕ) → v ≡ between (pos (getD t (a / 600) 0)) (pos (getD t n 0)) (a % 600) → a % 600 ≡ 0 → v ≡ quarterBy (entryIn t) a
-  unfolding quarterBy entryIn
-  on-minute v n e h = e ∙ any-next (pos (getD t (a / 600) 0)) (pos (getD t n 0)) (pos (getD t (a / 600 + 1) 0)) (a % 600) h
+  module _ (v : ℤ) (n f g : ℕ) (is : v ≡ between (pos f) (pos g) (a % 600)) (here : pos f ≡ e (a / 600)) (next : pos g ≡ e n) where
+    pub on-minute : a % 600 ≡ 0 → v ≡ quarterBy e a
+    unfolding quarterBy
+    on-minute h = is ∙ rw here (any-next (e (a / 600)) (pos g) (e (a / 600 + 1)) (a % 600) h)
 
-  pub off-minute : (v : ℤ) (n : ℕ) → v ≡ between (pos (getD t (a / 600) 0)) (pos (getD t n 0)) (a % 600) → n ≡ a / 600 + 1 → v ≡ quarterBy (entryIn t) a
-  unfolding quarterBy entryIn
-  off-minute v n e h = e ∙ rw h
+    pub off-minute : n ≡ a / 600 + 1 → v ≡ quarterBy e a
+    unfolding quarterBy
+    off-minute h = is ∙ rw (here, next, h)
 
-  -- ---- what the steps in a lent table tell
-  pub sine-up : (x : ℕ) (v : Whole) → v .v ≡ quarterBy (entryIn t) x → x ≡ folded a → a < 12960000 → a ≤ 6480000 → told (Is v) ≡ ofAngle a (sineIn t a)
-  unfolding sineIn
-  sine-up x v e f h i = tells _ v _ (lt-ltb a 12960000 h) (e ∙ ap (quarterBy (entryIn t)) f ∙ sym (around-up (quarterBy (entryIn t)) a i))
+  -- ---- what the steps tell
+  pub sine-up : (x : ℕ) (v : Whole) → v .v ≡ quarterBy e x → x ≡ folded a → a < 12960000 → a ≤ 6480000 → told (Is v) ≡ ofAngle a (sineBy e a)
+  unfolding sineBy
+  sine-up x v g f h i = tells _ v _ (lt-ltb a 12960000 h) (g ∙ ap (quarterBy e) f ∙ sym (around-up (quarterBy e) a i))
 
-  pub sine-down : (x : ℕ) (q : ℤ) (v : Whole) → v .v ≡ negℤ q → q ≡ quarterBy (entryIn t) x → x ≡ folded a → a < 12960000 → 6480000 < a → told (Is v) ≡ ofAngle a (sineIn t a)
-  unfolding sineIn
-  sine-down x q v d e f h i =
-      tells _ v _ (lt-ltb a 12960000 h) (d ∙ ap negℤ (e ∙ ap (quarterBy (entryIn t)) f) ∙ sym (around-down (quarterBy (entryIn t)) a i))
+  pub sine-down : (x : ℕ) (q : ℤ) (v : Whole) → v .v ≡ negℤ q → q ≡ quarterBy e x → x ≡ folded a → a < 12960000 → 6480000 < a → told (Is v) ≡ ofAngle a (sineBy e a)
+  unfolding sineBy
+  sine-down x q v d g f h i =
+      tells _ v _ (lt-ltb a 12960000 h) (d ∙ ap negℤ (g ∙ ap (quarterBy e) f) ∙ sym (around-down (quarterBy e) a i))
 
 pub too-far : (a : ℕ) (z : ℤ) → 12960000 ≤ a → told OutOfRange ≡ ofAngle a z
 too-far a z h = refuses _ z (le-ltb a 12960000 h)
 
 -- the angle ahead is one of the circle, so its sine is not refused
-pub cosine-ahead : (t : List ℕ) (a : ℕ) (r : Amount) → told r ≡ ofAngle ((a + 3240000) % 12960000) (sineIn t ((a + 3240000) % 12960000)) → a < 12960000 → told r ≡ ofAngle a (cosineIn t a)
-cosine-ahead t a r e h = e ∙ rw (lt-ltb ((a + 3240000) % 12960000) 12960000 (mod-lt (a + 3240000) (omega arith)), lt-ltb a 12960000 h)
+pub cosine-ahead : (e : ℕ → ℤ) (a : ℕ) (r : Amount) → told r ≡ ofAngle ((a + 3240000) % 12960000) (sineBy e ((a + 3240000) % 12960000)) → a < 12960000 → told r ≡ ofAngle a (cosineBy e a)
+cosine-ahead e a r g h = g ∙ rw (lt-ltb ((a + 3240000) % 12960000) 12960000 (mod-lt (a + 3240000) (omega arith)), lt-ltb a 12960000 h)

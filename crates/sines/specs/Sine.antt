@@ -1,8 +1,9 @@
 -- Paper 01, "Sines": the table of the whole minutes, the interpolation between them, and what the steps answer.
 use mathlib.Core.Path.{_≡_}
+use mathlib.Core.Bool.{cond}
 use mathlib.Core.List.{List}
-use Prim.Native.Nat.{ℕ, _+_, _*_, _/_, _%_, _≤_}
-use lib.Dec.{ltb}
+use Prim.Native.Nat.{ℕ, _+_, _*_, _/_, _%_, _≤_, min}
+use lib.Dec.{leb, ltb}
 use lib.ListN.{length, getD}
 use lib.IntN.{ℤ, pos, _+ℤ_, _-ℤ_, _*ℤ_}
 use Rattle.whole.specs.Nearest.{nearest}
@@ -27,24 +28,17 @@ between e f r = e +ℤ nearest ((f -ℤ e) *ℤ pos r) 600
 unfoldable pub quarterBy : (ℕ → ℤ) → ℕ → ℤ
 quarterBy e a = between (e (a / 600)) (e (a / 600 + 1)) (a % 600)
 
-abbrev pub sineBy : (ℕ → ℤ) → ℕ → ℤ
+-- the sine and the cosine by given entries: by `entry` they are the paper's
+unfoldable pub sineBy : (ℕ → ℤ) → ℕ → ℤ
 sineBy e a = around (quarterBy e) a
 
--- the sine and the cosine of the paper, and those in any lent table
-unfoldable pub sineOf : ℕ → ℤ
-sineOf a = sineBy entry a
+abbrev pub cosineBy : (ℕ → ℤ) → ℕ → ℤ
+cosineBy e a = sineBy e (ahead a)
 
-abbrev pub cosineOf : ℕ → ℤ
-cosineOf a = sineOf (ahead a)
-
+-- the entries of any list that is lent for a table: one above 1 counts as 1, so that no sine is above 1. Behind 90 degrees a table has none and no angle
+-- asks for one; the paper's stand there, so that in a table that holds the paper's entries all are the paper's
 unfoldable pub entryIn : List ℕ → ℕ → ℤ
-entryIn t m = pos (getD t m 0)
-
-unfoldable pub sineIn : List ℕ → ℕ → ℤ
-sineIn t a = sineBy (entryIn t) a
-
-abbrev pub cosineIn : List ℕ → ℕ → ℤ
-cosineIn t a = sineIn t (ahead a)
+entryIn t m = cond (leb m 5400) (pos (min (getD t m 0) 1000000000)) (entry m)
 
 -- "An angle of 12,960,000 or more is refused (4)"
 abbrev pub ofAngle : ℕ → ℤ → Told

@@ -9,7 +9,7 @@ ghost use Prim.Native.Nat.{_+_, _/_, _%_, _<_, _≤_, _^_};
 ghost use lib.IntN.{pos, natAbs};
 ghost use Rattle.answer.specs.Told.{told};
 ghost use Rattle.sines.specs.Quadrant.{folded};
-ghost use Rattle.sines.specs.Sine.{Table, between as Sine·between, quarterBy, entryIn, sineIn, cosineIn, sineOf, cosineOf, ofAngle};
+ghost use Rattle.sines.specs.Sine.{Table, between as Sine·between, entry, quarterBy, entryIn, sineBy, cosineBy, ofAngle};
 
 mod minutes;
 
@@ -31,6 +31,18 @@ fn between(e: u32, f: u32, r: u32) -> Whole
     first.plus(rise.times(Whole::of_size(r as u64)).nearest(600))
 }
 
+// What an entry of a lent table counts as.
+fn entry_in(table: &[u32; 5401], m: usize) -> u32
+    requires { ⌜ m ≤ 5400 ⌝ }
+    ensures { λ e. ⌜ pos e ≡ entryIn (now (table .entry)) m ⌝ }
+{
+    let e = table[m];
+    if 1000000000 < e {
+        return 1000000000;
+    }
+    e
+}
+
 // The sine of an angle of the first quadrant in a lent table. At a whole minute the next entry has no weight, and behind 90 degrees there is none.
 fn quarter_in(table: &[u32; 5401], a: u32) -> Whole
     requires { ⌜ a ≤ 3240000 ⌝ }
@@ -40,7 +52,7 @@ fn quarter_in(table: &[u32; 5401], a: u32) -> Whole
     let m = (a / 600) as usize;
     let r = a % 600;
     let next = if r == 0 { m } else { m + 1 };
-    between(table[m], table[next], r)
+    between(entry_in(table, m), entry_in(table, next), r)
 }
 
 // The angle of the first quadrant whose sine has the same size.
@@ -63,7 +75,7 @@ fn fold(angle: u32) -> u32
 
 // The sine of an angle in a lent table, whatever the table holds.
 pub fn sine_in(table: &[u32; 5401], angle: u32) -> Amount
-    ensures is { λ r. ⌜ told r ≡ ofAngle angle (sineIn (now (table .entry)) angle) ⌝ }
+    ensures is { λ r. ⌜ told r ≡ ofAngle angle (sineBy (entryIn (now (table .entry))) angle) ⌝ }
     ensures size { λ r. ⌜ natAbs (told r .value) < 2 ^ 32 ⌝ }
 {
     if 12960000 <= angle {
@@ -78,7 +90,7 @@ pub fn sine_in(table: &[u32; 5401], angle: u32) -> Amount
 
 // The cosine is the sine of the angle plus 90 degrees.
 pub fn cosine_in(table: &[u32; 5401], angle: u32) -> Amount
-    ensures is { λ r. ⌜ told r ≡ ofAngle angle (cosineIn (now (table .entry)) angle) ⌝ }
+    ensures is { λ r. ⌜ told r ≡ ofAngle angle (cosineBy (entryIn (now (table .entry))) angle) ⌝ }
     ensures size { λ r. ⌜ natAbs (told r .value) < 2 ^ 32 ⌝ }
 {
     if 12960000 <= angle {
@@ -88,14 +100,14 @@ pub fn cosine_in(table: &[u32; 5401], angle: u32) -> Amount
 }
 
 pub fn sine(angle: u32) -> Amount
-    ensures { λ r. ⌜ told r ≡ ofAngle angle (sineOf angle) ⌝ }
+    ensures { λ r. ⌜ told r ≡ ofAngle angle (sineBy entry angle) ⌝ }
 {
     let own = table();
     sine_in(&own, angle)
 }
 
 pub fn cosine(angle: u32) -> Amount
-    ensures { λ r. ⌜ told r ≡ ofAngle angle (cosineOf angle) ⌝ }
+    ensures { λ r. ⌜ told r ≡ ofAngle angle (cosineBy entry angle) ⌝ }
 {
     let own = table();
     cosine_in(&own, angle)

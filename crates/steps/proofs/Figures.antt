@@ -9,7 +9,7 @@ use Rattle.whole.specs.Sum.{sumTo}
 use Rattle.answer.specs.Told.{Told, given, inside}
 use Rattle.sines.specs.Exact.{exactSine, exactQuarter, bySeries, series, weight, unity, straight, pi, factorial}
 use Rattle.sines.specs.Quadrant.{around, turned, folded}
-use Rattle.sines.specs.Sine.{entry, between, quarterBy, sineOf, ofAngle}
+use Rattle.sines.specs.Sine.{entry, between, quarterBy, sineBy, ofAngle}
 use Rattle.steps.specs.Distance.{seaLevel, combine, grid, seaLevelStep, combineStep}
 use Rattle.steps.specs.Azimuth.{turn, misclosure, closesAngles, misclosureStep, misclosureTest}
 use Rattle.steps.specs.Share.{share, shareStep}
@@ -30,7 +30,7 @@ abbrev dms : ℕ → ℕ → ℕ → ℕ → ℕ
 dms degrees minutes seconds tenth = ((degrees * 60 + minutes) * 60 + seconds) * 10 + tenth
 
 abbrev sineAt : ℕ → Told
-sineAt a = ofAngle a (sineOf a)
+sineAt a = ofAngle a (sineBy entry a)
 
 pub marked : List Figure
 marked =
@@ -45,10 +45,10 @@ marked =
     ∷ fig (seaLevelStep (pos 1235)) (pos 9999409)
     ∷ fig (seaLevelStep (negℤ (pos 1000))) (pos 10000478)
     ∷ fig (combineStep 9999546 9999412) (pos 9998958)
-    ∷ fig (courseStep north 5387658 (dms 208 33 59 7)) (pos 473178)
-    ∷ fig (courseStep east 5387658 (dms 208 33 59 7)) (pos 257627)
-    ∷ fig (courseStep north 5190741 (dms 268 10 58 2)) (pos 16460)
-    ∷ fig (courseStep east 5190741 (dms 268 10 58 2)) (pos 518813)
+    ∷ fig (courseStep entry north 5387658 (dms 208 33 59 7)) (pos 473178)
+    ∷ fig (courseStep entry east 5387658 (dms 208 33 59 7)) (pos 257627)
+    ∷ fig (courseStep entry north 5190741 (dms 268 10 58 2)) (pos 16460)
+    ∷ fig (courseStep entry east 5190741 (dms 268 10 58 2)) (pos 518813)
     ∷ fig (shareStep (pos 2) 1 3) (pos 1)
     ∷ fig (shareStep (pos 2) 2 3) (pos 1)
     ∷ fig (shareStep (pos 2) 3 3) (pos 2)
@@ -72,7 +72,7 @@ abbrev Hold : List Figure → Type 0
 Hold figures = map (λ (f : Figure). f .rule) figures ≡ map (λ (f : Figure). given (f .paper)) figures
 
 pub marked-hold : Hold marked
-unfolding marked sineOf quarterBy between entry nearest exactSine around turned folded exactQuarter bySeries series weight unity straight pi factorial seaLevel combine grid inside share move sineAlong
+unfolding marked sineBy quarterBy between entry nearest exactSine around turned folded exactQuarter bySeries series weight unity straight pi factorial seaLevel combine grid inside share move sineAlong
 marked-hold = refl
 
 pub others-hold : Hold others

@@ -11,7 +11,7 @@ use Rattle.answer.proofs.Single.{amounts-coincide, counts-coincide, verdicts-co
 use Rattle.steps.specs.Distance.{seaLevelStep, combineStep, gridStep}
 use Rattle.steps.specs.Azimuth.{fromMarkStep, onwardStep, misclosureStep, misclosureTest, balancedStep}
 use Rattle.steps.specs.Share.{shareStep, angleShareStep}
-use Rattle.steps.specs.Course.{Axis, courseStep, courseStepIn}
+use Rattle.steps.specs.Course.{Axis, courseStep}
 use Rattle.steps.specs.Closure.{closureTest, precisionStep}
 use Rattle.steps.specs.Area.{areaStep}
 
@@ -47,13 +47,10 @@ module _ (x y : Amount) where
   pub angle-share-single : (w : ℤ) (j n : ℕ) → told x ≡ angleShareStep w j n → told y ≡ angleShareStep w j n → x ≡ y
   angle-share-single w j n = amounts-coincide (angleShareStep w j n) x y
 
-  -- `latitude` is the axis north, `departure` the axis east
-  pub course-single : (axis : Axis) (distance azimuth : ℕ) → told x ≡ courseStep axis distance azimuth → told y ≡ courseStep axis distance azimuth → x ≡ y
-  course-single axis distance azimuth = amounts-coincide (courseStep axis distance azimuth) x y
-
-  -- `latitude_in` and `departure_in`
-  pub course-in-single : (table : List ℕ) (axis : Axis) (distance azimuth : ℕ) → told x ≡ courseStepIn table axis distance azimuth → told y ≡ courseStepIn table axis distance azimuth → x ≡ y
-  course-in-single table axis distance azimuth = amounts-coincide (courseStepIn table axis distance azimuth) x y
+  -- `latitude` is the axis north, `departure` the axis east; with the entries of a lent table, `latitude_in` and `departure_in`
+  pub course-single : (e : ℕ → ℤ) (axis : Axis) (distance azimuth : ℕ) → told x ≡ courseStep e axis distance azimuth → told y ≡ courseStep e axis distance azimuth
+      → x ≡ y
+  course-single e axis distance azimuth = amounts-coincide (courseStep e axis distance azimuth) x y
 
   pub doubled-area-single : (offsets : List ℤ) → told x ≡ areaStep offsets → told y ≡ areaStep offsets → x ≡ y
   doubled-area-single offsets = amounts-coincide (areaStep offsets) x y

@@ -5,7 +5,8 @@ ghost use mathlib.Core.Path.{_≡_};
 ghost use Prim.Native.Nat.{_≤_, _<_, _^_};
 ghost use lib.IntN.{natAbs};
 ghost use Rattle.answer.specs.Told.{told};
-ghost use Rattle.steps.specs.Course.{north, east, move as Course·move, courseStep, courseStepIn};
+ghost use Rattle.steps.specs.Course.{north, east, move as Course·move, courseStep};
+ghost use Rattle.sines.specs.Sine.{entry, entryIn};
 
 // How far a distance moves along an axis, by the sine that counts there.
 fn move_by(distance: u64, sine: Whole) -> Whole
@@ -20,7 +21,7 @@ fn move_by(distance: u64, sine: Whole) -> Whole
 
 // The latitude of a leg, by the cosine in a lent table.
 pub fn latitude_in(table: &[u32; 5401], distance: u64, azimuth: u32) -> Amount
-    ensures { λ r. ⌜ told r ≡ courseStepIn (now (table .entry)) north distance azimuth ⌝ }
+    ensures { λ r. ⌜ told r ≡ courseStep (entryIn (now (table .entry))) north distance azimuth ⌝ }
 {
     if 20100000 < distance {
         return Amount::OutOfRange;
@@ -34,7 +35,7 @@ pub fn latitude_in(table: &[u32; 5401], distance: u64, azimuth: u32) -> Amount
 
 // The departure of a leg, by the sine in a lent table.
 pub fn departure_in(table: &[u32; 5401], distance: u64, azimuth: u32) -> Amount
-    ensures { λ r. ⌜ told r ≡ courseStepIn (now (table .entry)) east distance azimuth ⌝ }
+    ensures { λ r. ⌜ told r ≡ courseStep (entryIn (now (table .entry))) east distance azimuth ⌝ }
 {
     if 20100000 < distance {
         return Amount::OutOfRange;
@@ -47,14 +48,14 @@ pub fn departure_in(table: &[u32; 5401], distance: u64, azimuth: u32) -> Amount
 }
 
 pub fn latitude(distance: u64, azimuth: u32) -> Amount
-    ensures { λ r. ⌜ told r ≡ courseStep north distance azimuth ⌝ }
+    ensures { λ r. ⌜ told r ≡ courseStep entry north distance azimuth ⌝ }
 {
     let own = sines::table();
     latitude_in(&own, distance, azimuth)
 }
 
 pub fn departure(distance: u64, azimuth: u32) -> Amount
-    ensures { λ r. ⌜ told r ≡ courseStep east distance azimuth ⌝ }
+    ensures { λ r. ⌜ told r ≡ courseStep entry east distance azimuth ⌝ }
 {
     let own = sines::table();
     departure_in(&own, distance, azimuth)

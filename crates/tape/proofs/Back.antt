@@ -22,7 +22,7 @@ use Rattle.tape.specs.declared.Step.the-variants.{Next}
 use Rattle.tape.specs.declared.Reading.the-variants.{Reads}
 use Rattle.tape.proofs.Numbers.{num-drop}
 use Rattle.tape.proofs.Walk.{passed}
-use Rattle.tape.proofs.Branch.{by-test}
+use Rattle.whole.proofs.Branch.{by-test}
 use Rattle.tape.proofs.Round.{reads-next}
 
 -- ---- what a field can write: the numbers above its floor and below its ceiling

@@ -20,12 +20,7 @@ use Rattle.tape.specs.declared.Step.{Step}
 use Rattle.tape.specs.Bytes.{bytes}
 use Rattle.tape.specs.Record.{Rec, rec, fieldsOf, table, bodyOf, goodOf, numbersOf, bytesOf, recOf, goodRecord, bytesOfRecord}
 use Rattle.tape.specs.Tape.{mayCome, roomOf, afterOf}
-use Rattle.tape.proofs.Branch.{by-test}
-
--- a choice between lists of fields, taken after a function
-pub cond-ap : {A B : Type 0} (f : A → B) (x y : A) (b : Bool) → f (cond b x y) ≡ cond b (f x) (f y)
-cond-ap f x y true = refl
-cond-ap f x y false = refl
+use Rattle.whole.proofs.Branch.{by-test, either, left}
 
 -- ---- the record given is the case found
 module _ (given found : Record) (e : given ≡ found) where
@@ -80,10 +75,6 @@ module _ (k : ℕ) (a : k ≡ 5 → ⊥) (b : k ≡ 1 → ⊥) (c : k ≡ 2 → 
   within-close at p w len = within k 4 at p w len is-close
 
 -- ---- a kind that may come is one of the five
-pub either : {A : Type 0} (p q : Bool) → (p ≡ true → A) → (q ≡ true → A) → (p || q) ≡ true → A
-either true q f g e = f refl
-either false q f g e = g e
-
 module _ (k : ℕ) where
   abbrev OfFive : Type 0
   OfFive = (1 ≤ k) × (k ≤ 5)
@@ -118,10 +109,6 @@ row-minute given minute factor e t =
     omega (arith, leb-true minute 5400 (and-eq-true-iff (leb 0 minute) (leb minute 5400) .0 i .1))
 
 -- where there is room for a row, or a leg, one more is counted without harm
-pub left : (p : Bool) (n : ℕ) → 0 < n → cond p 0 n ≡ 0 → p ≡ true
-left true n h e = refl
-left false n h e = absurd (omega arith)
-
 module _ (st : State) (given : Record) (h : roomOf st (recOf given .kind) ≡ 0) where
   pub row-room : (minute factor : ℕ) → given ≡ kinds.Row minute factor → st .rows < 600
   unfolding roomOf recOf

@@ -20,7 +20,7 @@ use Rattle.tape.specs.declared.Step.the-variants.{Next}
 use Rattle.tape.specs.declared.Fields.{Fields}
 use Rattle.tape.specs.declared.Reading.{Reading}
 use Rattle.tape.specs.declared.Reading.the-variants.{Refused, Reads}
-use Rattle.tape.proofs.Branch.{by-test}
+use Rattle.whole.proofs.Branch.{by-test}
 use Rattle.tape.proofs.Numbers.{head-drop, num-drop}
 use Rattle.tape.proofs.Bodies.{within, come-kind}
 use Rattle.tape.proofs.Walk.{at-front, step-comes, next-whole, walk-next}

@@ -23,7 +23,7 @@ use Rattle.tape.specs.declared.Step.the-variants.{Next}
 use Rattle.tape.specs.declared.Fields.{Fields}
 use Rattle.tape.specs.declared.Reading.{Reading}
 use Rattle.tape.specs.declared.Reading.the-variants.{Reads}
-use Rattle.tape.proofs.Branch.{by-test}
+use Rattle.whole.proofs.Branch.{by-test}
 use Rattle.tape.proofs.Bodies.{come-kind, is-close}
 use Rattle.tape.proofs.Walk.{passed}
 use Rattle.tape.proofs.Round.{reads-next, lawful}

@@ -1,6 +1,5 @@
 pub mod Back
 pub mod Bodies
-pub mod Branch
 pub mod Gathering
 pub mod Held
 pub mod Longest

@@ -17,8 +17,7 @@ use Rattle.tape.specs.declared.Step.{Step}
 use Rattle.tape.specs.declared.Step.the-variants.{Next, Stop}
 use Rattle.tape.specs.declared.Reading.{Reading}
 use Rattle.tape.specs.declared.Reading.the-variants.{Refused}
-use Rattle.tape.proofs.Bodies.{either, left}
-use Rattle.tape.proofs.Branch.{by-test}
+use Rattle.whole.proofs.Branch.{by-test, either, left}
 use Rattle.tape.proofs.Rows.{Leads}
 use Rattle.tape.proofs.Walk.{passed}
 

@@ -14,7 +14,7 @@ use Rattle.tape.specs.declared.Step.{Step}
 use Rattle.tape.specs.declared.Step.the-variants.{Next, Stop}
 use Rattle.tape.specs.declared.Reading.{Reading}
 use Rattle.tape.specs.declared.Reading.the-variants.{Refused, Reads}
-use Rattle.tape.proofs.Branch.{by-test}
+use Rattle.whole.proofs.Branch.{by-test}
 
 abbrev Number : ℕ → Type 0
 Number n = (2 ≤ n) × (n ≤ 7)

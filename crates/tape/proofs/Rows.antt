@@ -15,7 +15,7 @@ use Rattle.tape.specs.Tape.{judge, afterOf, rowNext, projectNext, firstO
 use Rattle.tape.specs.declared.State.{State}
 use Rattle.tape.specs.declared.Step.{Step}
 use Rattle.tape.specs.declared.Step.the-variants.{Next, Stop}
-use Rattle.tape.proofs.Branch.{cond-and, by-test}
+use Rattle.whole.proofs.Branch.{cond-and, by-test}
 use Rattle.tape.proofs.Walk.{passed}
 
 -- the records rs, each taken, lead from st to st″

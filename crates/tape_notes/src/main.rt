@@ -5,21 +5,17 @@ use libc::STDIN_FILENO;
 use libc::STDOUT_FILENO;
 use notes::Texted;
 
-fn write_front(file: i32, room: &[u8], n: usize) {
-    if n <= room.len() {
-        io::write_all(file, &room[..n]);
-    }
-}
-
 fn tell(number: u32, place: usize, room: &mut [u8]) {
     let n = notes::refusal_of(number, place, room);
-    write_front(STDERR_FILENO, room, n);
+    io::write_all(STDERR_FILENO, notes::front(room, n));
     io::write_all(STDERR_FILENO, b"\n");
 }
 
 fn print(tape: &[u8], room: &mut [u8]) {
     match notes::text_of(tape, room) {
-        Texted::Text(n) => write_front(STDOUT_FILENO, room, n),
+        Texted::Text(n) => {
+            io::write_all(STDOUT_FILENO, notes::front(room, n));
+        }
         Texted::Refused { number, place } => tell(number, place, room),
     }
 }

@@ -1,14 +1,11 @@
 -- The laws of ℤ's ring, order and size that the kit leaves out, by names that `rw` and `search` can cite. Assumes nothing.
 use mathlib.Core.Path.{_≡_, refl, sym, _∙_, ap}
-use mathlib.Core.Bool.{Bool, true, false, not}
 use mathlib.Core.List.{[], _∷_}
-use mathlib.Core.Logic.{_⊎_, inl, inr}
 use Prim.Native.Nat.{ℕ, zero, suc, _+_, _*_, _≤_, _<_}
 use native.Mathlib.Nat.{le-of-mul-le-mul-left}
 use native.Mathlib.Omega.{arith}
-use lib.Dec.{T, leb, leb→le, nleb→lt}
 use lib.IntN.{ℤ, pos, negsuc, negℤ, natAbs, _+ℤ_, _-ℤ_, _*ℤ_}
-use Rattle.whole.specs.Order.{_≤ᶻ_, _<ᶻ_}
+use Rattle.whole.specs.Order.{_≤ᶻ_}
 use Rattle.whole.proofs.Diff.{up, dn, ints, int, vars, same, under, le, abs-under}
 
 -- ---- the ring
@@ -33,12 +30,6 @@ mul-add a b c = let v = vars (a ∷ b ∷ c ∷ []) in same (search ints) (omega
 pub add-mul : (a b c : ℤ) → (a +ℤ b) *ℤ c ≡ a *ℤ c +ℤ b *ℤ c
 add-mul a b c = let v = vars (a ∷ b ∷ c ∷ []) in same (search ints) (omega arith)
 
-pub mul-neg : (a b : ℤ) → a *ℤ negℤ b ≡ negℤ (a *ℤ b)
-mul-neg a b = let v = vars (a ∷ b ∷ []) in same (search ints) (omega arith)
-
-pub neg-mul : (a b : ℤ) → negℤ a *ℤ b ≡ negℤ (a *ℤ b)
-neg-mul a b = let v = vars (a ∷ b ∷ []) in same (search ints) (omega arith)
-
 pub mul-sub : (a b c : ℤ) → a *ℤ (b -ℤ c) ≡ a *ℤ b -ℤ a *ℤ c
 mul-sub a b c = let v = vars (a ∷ b ∷ c ∷ []) in same (search ints) (omega arith)
 
@@ -51,19 +42,6 @@ neg-sub a b = let v = vars (a ∷ b ∷ []) in same (search ints) (omega arith)
 -- ---- the order
 pub ≤ᶻ-trans : {a b c : ℤ} → a ≤ᶻ b → b ≤ᶻ c → a ≤ᶻ c
 ≤ᶻ-trans h k = omega int
-
-pub ≤ᶻ-antisym : {a b : ℤ} → a ≤ᶻ b → b ≤ᶻ a → a ≡ b
-≤ᶻ-antisym h k = omega int
-
-pub ≤ᶻ-or-< : (a b : ℤ) → (a ≤ᶻ b) ⊎ (b <ᶻ a)
-≤ᶻ-or-< a b = go (leb (up a + dn b) (up b + dn a)) (leb→le _ _) (nleb→lt _ _)
-  where
-    go : (t : Bool) → (T t → up a + dn b ≤ up b + dn a) → (T (not t) → up b + dn a < up a + dn b) → (a ≤ᶻ b) ⊎ (b <ᶻ a)
-    go true f g = inl (let h = f tt in omega int)
-    go false f g = inr (let h = g tt in omega int)
-
-pub add-mono : {a b c d : ℤ} → a ≤ᶻ b → c ≤ᶻ d → a +ℤ c ≤ᶻ b +ℤ d
-add-mono {a} {b} {c} {d} h k = let v = vars (a ∷ b ∷ c ∷ d ∷ []) in under (search ints) (omega int)
 
 pub neg-anti : {a b : ℤ} → a ≤ᶻ b → negℤ b ≤ᶻ negℤ a
 neg-anti {a} {b} h = let v = vars (a ∷ b ∷ []) in under (search ints) (omega int)
@@ -116,3 +94,10 @@ triangle x y = let v = vars (x ∷ y ∷ []) in abs-under (x +ℤ y) (search int
 
 pub triangle-sub : (x y : ℤ) → natAbs (x -ℤ y) ≤ natAbs x + natAbs y
 triangle-sub x y = omega (arith, triangle x (negℤ y), abs-neg y)
+
+-- a place near a fixed one is not much larger
+pub near-most : (p : ℤ) (f k : ℕ) → natAbs (p -ℤ pos f) ≤ k → natAbs p ≤ k + f
+near-most p f k h =
+    let v = vars (p ∷ pos f ∷ []) in
+    let e : p ≡ p -ℤ pos f +ℤ pos f = same (search ints) (omega arith) in
+    rw e (omega (arith, triangle (p -ℤ pos f) (pos f)))

@@ -1,3 +1,4 @@
+pub mod Branch
 pub mod Diff
 pub mod Examples
 pub mod Laws

@@ -1,18 +1,17 @@
 -- What the needs of signed code ask, said of the integers themselves. A signed value passes through its bits, so a need speaks of `back z` where the
 -- code says z; below 2 ^ 63 in size that is z again, for every operation and test alike. Assumes nothing.
 use mathlib.Core.Path.{_≡_, refl, sym, _∙_, ap, subst}
-use mathlib.Core.Bool.{Bool, true, false, not, _&&_, and-true}
+use mathlib.Core.Bool.{Bool, true, false, _&&_, and-true}
 use Prim.Native.Nat.{ℕ, zero, suc, _+_, _-_, _*_, _^_, _≤_, _<_}
 use native.Mathlib.Nat.{mul-lt-mul-of-pos-right, mul-le-mul-left, lt-of-le-of-lt, le-of-lt}
 use native.Mathlib.Omega.{arith}
 use lib.Dec.{T, leb, leb·zero, leb·suc-zero, leb·suc-suc}
 use borrow.Author.Tests.{ltb-true}
 use lib.IntN.{ℤ, pos, negsuc, negℤ, natAbs, _+ℤ_, _-ℤ_, _*ℤ_, negℤ-negℤ, +ℤ-idl}
-use lib.Signed.{ltZ, leZ, nonNeg, mag, ltZ-yes, ltZ-no}
+use lib.Signed.{ltZ, leZ, nonNeg, mag}
 use mir.Syntax.{w64}
 use mir.Val.{SFits, Fits, toZ, ofZ}
 use mir.Facts.{toZ-ofZ}
-use Rattle.whole.specs.Order.{_≤ᶻ_, _<ᶻ_}
 use Rattle.whole.specs.Nearest.{nearest, halfUp}
 use Rattle.whole.proofs.Diff.{ints, same}
 use Rattle.whole.proofs.Laws.{abs-neg, abs-mul}
@@ -78,13 +77,6 @@ opposite-is z h = rw (back-is z h, +ℤ-idl (negℤ z)) (back-is (negℤ z) (rw 
 
 pub opposite-size : (z : ℤ) → natAbs z < 2 ^ 63 → natAbs (back (pos 0 -ℤ back z)) ≡ natAbs z
 opposite-size z h = rw (opposite-is z h) (abs-neg z)
-
--- ---- what a test `a < b` of the code, and a promise `r ≡ ltZ a b`, say of the order
-pub is-below : (a b : ℤ) → ltZ a b ≡ true → a <ᶻ b
-is-below a b e = ltZ-yes (subst T (sym e) tt)
-
-pub is-not-below : (a b : ℤ) → ltZ a b ≡ false → b ≤ᶻ a
-is-not-below a b e = ltZ-no {a = a} {b = b} (subst (λ (t : Bool). T (not t)) (sym e) tt)
 
 -- a number by its sign
 pub sign-below : (z : ℤ) → ltZ z (pos 0) ≡ true → (n : ℕ) × (z ≡ negsuc n)

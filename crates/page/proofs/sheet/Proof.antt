@@ -1,5 +1,6 @@
 -- `sheet` meets its contract: no room, or the answer of the traverse shown.
 use borrow.Author.Needs.{needs}
+use Rattle.sines.proofs.Own.{rule-entries}
 use Rattle.page.proofs.Paging.{no-room, shows, showed}
 use Rattle.page.proofs.sheet.Statement.{statement}
 use Rattle.page.proofs.sheet.Tie as tie
@@ -14,7 +15,7 @@ traverse-requires : tie.Need-traverse-requires
 traverse-requires c κs = search needs
 
 show-requires : tie.Need-show-requires
-show-requires c κs = search shows
+show-requires c κs = search (shows, rule-entries)
 
 same-length : tie.Need-same-length
 same-length c = search needs

@@ -1,7 +1,7 @@
 -- `write` meets its contract: the four ways out of a writer.
 use borrow.Author.Needs.{needs}
 use Rattle.tape.proofs.Bodies.{length-given, room-given}
-use Rattle.tape.proofs.Branch.{told-true}
+use Rattle.whole.proofs.Branch.{told-true}
 use Rattle.tape.proofs.Ways.{wrote}
 use Rattle.tape.proofs.write.Statement.{statement}
 use Rattle.tape.proofs.write.Tie as tie

@@ -1,11 +1,8 @@
 -- `area` meets its contract: the step gives the doubled area, since the offsets are in range.
 use borrow.Author.Needs.{needs}
-use Rattle.desk.proofs.Looping.{offsets-count, area-is, area-none}
+use Rattle.desk.proofs.Looping.{taken-count, area-is, area-none}
 use Rattle.desk.proofs.area.area.Statement.{statement}
 use Rattle.desk.proofs.area.area.Tie as tie
-
-is-loop-requires : tie.Need-is-loop-requires
-is-loop-requires c κs = search needs
 
 slice-aggregate-put-offsets : tie.Need-slice-aggregate-put-offsets
 slice-aggregate-put-offsets c = search needs
@@ -20,7 +17,7 @@ array-share-prefix-offsets : tie.Need-array-share-prefix-offsets
 array-share-prefix-offsets c = search needs
 
 slice-aggregate-doubled-area : tie.Need-slice-aggregate-doubled-area
-slice-aggregate-doubled-area c = search offsets-count
+slice-aggregate-doubled-area c = search taken-count
 
 doubled-area-requires : tie.Need-doubled-area-requires
 doubled-area-requires c κs = search needs
@@ -38,7 +35,6 @@ pub area-spec : {M : Type 1} → statement M
 area-spec =
     tie.close
     (tie.spec
-    is-loop-requires
     slice-aggregate-put-offsets
     put-offsets-requires
     mul-offsets

@@ -3,13 +3,15 @@
 use mathlib.Core.Path.{refl}
 use Prim.Native.Nat.{_-_, _≤_}
 use borrow.Author.Needs.{needs}
+use Rattle.sines.specs.Sine.{entryIn}
+use Rattle.sines.proofs.Own.{lent-entries}
 use Rattle.desk.specs.Inside.{Stands, Ran}
 use Rattle.desk.proofs.Running.{leg-sound, stands-small, stands-first, stands-next, ran-first, ran-next, ran-last}
 use Rattle.desk.proofs.legs.run_all.Statement.{statement}
 use Rattle.desk.proofs.legs.run_all.Tie as tie
 
 abbrev Inv-loop : tie.InvT-loop
-Inv-loop table b s₀ stations₀ k₀ s stations k = (k ≤ b .legs) × Stands b k s × Ran b k stations
+Inv-loop table b s₀ stations₀ k₀ s stations k = (k ≤ b .legs) × Stands (entryIn table) b k s × Ran (entryIn table) b k stations
 
 abbrev μ-loop : tie.MeasureT-loop
 μ-loop table b s₀ stations₀ k₀ s stations k = b .legs - k
@@ -27,7 +29,7 @@ of-size-requires-2 : tie.Need-of-size-requires-2 Inv-loop μ-loop
 of-size-requires-2 c κs = search needs
 
 loop-holds : tie.Need-loop-holds Inv-loop μ-loop
-loop-holds c = (search needs, search stands-first, ran-first _ (search needs) _ refl (search stands-first))
+loop-holds c = (search needs, search stands-first, ran-first _ _ _ refl (search stands-first))
 
 mul-advance : tie.Need-mul-advance Inv-loop μ-loop
 mul-advance c = search needs
@@ -42,7 +44,7 @@ element-copy-out-advance-2 : tie.Need-element-copy-out-advance-2 Inv-loop μ-loo
 element-copy-out-advance-2 c = search needs
 
 advance-requires : tie.Need-advance-requires Inv-loop μ-loop
-advance-requires c κs = (search needs, (search leg-sound, search stands-small))
+advance-requires c κs = (search leg-sound, search (stands-small, lent-entries))
 
 add-k : tie.Need-add-k Inv-loop μ-loop
 add-k c = search needs

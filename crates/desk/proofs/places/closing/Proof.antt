@@ -1,6 +1,6 @@
 -- `closing` meets its contract: the fixed end is taken from each sum.
 use borrow.Author.Needs.{needs}
-use Rattle.desk.proofs.Settling.{settling}
+use Rattle.desk.proofs.Settling.{left-is}
 use Rattle.desk.proofs.places.closing.Statement.{statement}
 use Rattle.desk.proofs.places.closing.Tie as tie
 
@@ -23,7 +23,7 @@ minus-requires-2 : tie.Need-minus-requires-2
 minus-requires-2 c κs = search needs
 
 returns : tie.Need-returns
-returns c = search settling
+returns c = search left-is
 
 pub closing-spec : {M : Type 1} → statement M
 closing-spec =

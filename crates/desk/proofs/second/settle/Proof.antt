@@ -1,7 +1,8 @@
 -- `settle` meets its contract: the test decides between the refusal and the answer, and the words are written behind it.
 use borrow.Author.Needs.{needs}
-use Rattle.desk.proofs.Settling.{ran-end, end-small, north-near, east-near, north-closes, east-closes, second-near, second-far, words-near, words-far}
-use Rattle.desk.proofs.Words.{written}
+use Rattle.desk.proofs.Settling.{end-small, north-small, east-small, run-far, run-most-left, shared, near, second-far, words-near, words-far}
+use Rattle.desk.proofs.Stations.{passed-words, passed-told}
+use Rattle.sines.proofs.Own.{lent-entries}
 use Rattle.desk.proofs.second.settle.Statement.{statement}
 use Rattle.desk.proofs.second.settle.Tie as tie
 
@@ -15,31 +16,31 @@ array-copy-out-closing : tie.Need-array-copy-out-closing
 array-copy-out-closing c = search needs
 
 closing-requires : tie.Need-closing-requires
-closing-requires c κs = (search needs, (search ran-end, search end-small))
+closing-requires c κs = search (end-small, lent-entries)
 
 within-limit-requires : tie.Need-within-limit-requires
-within-limit-requires c κs = search needs
+within-limit-requires c κs = ((search (north-small, lent-entries), search (east-small, lent-entries)), (search (run-far, lent-entries), search (run-most-left, lent-entries)))
 
 put-all-requires : tie.Need-put-all-requires
-put-all-requires c κs = (search needs, (search needs, (search needs, ((search north-near, search east-near), search needs))))
+put-all-requires c κs = (search (shared, lent-entries), (search (near, lent-entries), search needs))
 
 precision-of-requires : tie.Need-precision-of-requires
-precision-of-requires c κs = ((search north-near, search east-near), search needs)
-
-area-requires : tie.Need-area-requires
-area-requires c κs = (search needs, (search written, (search north-closes, search east-closes)))
+precision-of-requires c κs = search (near, lent-entries)
 
 is-loop-requires : tie.Need-is-loop-requires
 is-loop-requires c κs = search needs
+
+area-requires : tie.Need-area-requires
+area-requires c κs = search (passed-words, lent-entries)
 
 same-length : tie.Need-same-length
 same-length c = search needs
 
 returns : tie.Need-returns
-returns c = (search second-near, search words-near)
+returns c = (search (passed-told, lent-entries), search (words-near, lent-entries))
 
 returns-2 : tie.Need-returns-2
-returns-2 c = (search second-far, search words-far)
+returns-2 c = (search (second-far, lent-entries), search (words-far, lent-entries))
 
 pub settle-spec : {M : Type 1} → statement M
 settle-spec =
@@ -52,8 +53,8 @@ settle-spec =
     within-limit-requires
     put-all-requires
     precision-of-requires
-    area-requires
     is-loop-requires
+    area-requires
     same-length
     returns
     returns-2)

@@ -1,7 +1,7 @@
 -- `put_all` meets its contract: the first line, those of the stations and the last one are put one behind the other.
 use borrow.Author.Needs.{needs}
+use Rattle.text.proofs.Putting.{room-one, room-two, room-three, then}
 use Rattle.page.specs.Sheet.{text}
-use Rattle.page.proofs.Putting.{room-one, room-two, room-three, then}
 use Rattle.page.proofs.lines.put_all.Statement.{statement}
 use Rattle.page.proofs.lines.put_all.Tie as tie
 

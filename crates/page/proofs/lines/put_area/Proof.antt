@@ -1,7 +1,7 @@
 -- `put_area` meets its contract: a line for a loop, and nothing else.
 use borrow.Author.Needs.{needs}
+use Rattle.text.proofs.Putting.{room-then, then}
 use Rattle.page.proofs.Stations.{area-room, area-first, area-put, area-none}
-use Rattle.page.proofs.Putting.{room-then, then}
 use Rattle.page.proofs.lines.put_area.Statement.{statement}
 use Rattle.page.proofs.lines.put_area.Tie as tie
 

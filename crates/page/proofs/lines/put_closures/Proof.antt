@@ -1,7 +1,7 @@
 -- `put_closures` meets its contract: three named amounts are put one behind the other.
 use borrow.Author.Needs.{needs}
+use Rattle.text.proofs.Putting.{room-one, room-two, room-three, then}
 use Rattle.page.specs.Sheet.{closures}
-use Rattle.page.proofs.Putting.{room-one, room-two, room-three, then}
 use Rattle.page.proofs.lines.put_closures.Statement.{statement}
 use Rattle.page.proofs.lines.put_closures.Tie as tie
 

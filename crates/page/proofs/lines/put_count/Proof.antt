@@ -1,6 +1,6 @@
 -- `put_count` meets its contract: the name, the count and the line feed are put one behind the other.
 use borrow.Author.Needs.{needs}
-use Rattle.page.proofs.Putting.{room-one, room-two, room-three, then}
+use Rattle.text.proofs.Putting.{room-one, room-two, room-three, then}
 use Rattle.page.proofs.lines.put_count.Statement.{statement}
 use Rattle.page.proofs.lines.put_count.Tie as tie
 

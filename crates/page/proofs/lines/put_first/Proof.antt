@@ -1,7 +1,7 @@
 -- `put_first` meets its contract: the closures, and the precision number behind them.
 use borrow.Author.Needs.{needs}
+use Rattle.text.proofs.Putting.{room-first, room-then, then}
 use Rattle.page.specs.Sheet.{closeLine}
-use Rattle.page.proofs.Putting.{room-first, room-then, then}
 use Rattle.page.proofs.lines.put_first.Statement.{statement}
 use Rattle.page.proofs.lines.put_first.Tie as tie
 

@@ -1,6 +1,6 @@
 -- `put_named` meets its contract: the amount stands behind its name.
 use borrow.Author.Needs.{needs}
-use Rattle.page.proofs.Putting.{room-first, room-then, then}
+use Rattle.text.proofs.Putting.{room-first, room-then, then}
 use Rattle.page.proofs.lines.put_named.Statement.{statement}
 use Rattle.page.proofs.lines.put_named.Tie as tie
 

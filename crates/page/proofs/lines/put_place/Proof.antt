@@ -1,6 +1,6 @@
 -- `put_place` meets its contract: northing, easting and the line feed are put one behind the other.
 use borrow.Author.Needs.{needs}
-use Rattle.page.proofs.Putting.{room-one, room-two, room-three, then}
+use Rattle.text.proofs.Putting.{room-one, room-two, room-three, then}
 use Rattle.page.proofs.lines.put_place.Statement.{statement}
 use Rattle.page.proofs.lines.put_place.Tie as tie
 

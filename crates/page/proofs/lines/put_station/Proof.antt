@@ -1,7 +1,7 @@
 -- `put_station` meets its contract: the station's number, and its place from the words behind it.
 use borrow.Author.Needs.{needs}
+use Rattle.text.proofs.Putting.{room-first}
 use Rattle.page.specs.Sheet.{lineOf, stationLine}
-use Rattle.page.proofs.Putting.{room-first}
 use Rattle.page.proofs.Stations.{place-room, place-put}
 use Rattle.page.proofs.lines.put_station.Statement.{statement}
 use Rattle.page.proofs.lines.put_station.Tie as tie

@@ -3,8 +3,8 @@ use Prim.Native.Nat.{_-_, _≤_}
 use mathlib.Core.Path.{_≡_}
 use borrow.Author.Needs.{needs}
 use lib.ListN.{length}
+use Rattle.text.specs.Room.{Put}
 use Rattle.page.specs.Sheet.{stationLines}
-use Rattle.page.specs.Inside.{Put}
 use Rattle.page.proofs.Stations.{lines-first, line-room, lines-next, lines-last}
 use Rattle.page.proofs.lines.put_stations.Statement.{statement}
 use Rattle.page.proofs.lines.put_stations.Tie as tie

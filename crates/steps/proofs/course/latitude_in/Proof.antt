@@ -1,7 +1,7 @@
 -- `latitude_in` meets its contract: an azimuth in range has its sine in the table, and the move is by that sine.
 use borrow.Author.Needs.{needs}
 use Rattle.answer.proofs.Telling.{ranges}
-use Rattle.steps.proofs.Moving.{north-in}
+use Rattle.steps.proofs.Moving.{north-by}
 use Rattle.steps.proofs.course.latitude_in.Statement.{statement}
 use Rattle.steps.proofs.course.latitude_in.Tie as tie
 
@@ -21,7 +21,7 @@ move-by-requires : tie.Need-move-by-requires
 move-by-requires c κs = (search needs, rw (c .value .ensures) (c .before .cosine-in .ensures .1))
 
 returns-3 : tie.Need-returns-3
-returns-3 c = search (north-in, ranges) depth 8
+returns-3 c = search (north-by, ranges) depth 8
 
 pub latitude-in-spec : {M : Type 1} → statement M
 latitude-in-spec =

@@ -1,6 +1,6 @@
 -- `may_come` meets its contract: the tests of the phase and the kind are those of the definition.
 use Rattle.tape.specs.Tape.{mayCome}
-use Rattle.tape.proofs.Branch.{branch, or-cond, and-cond}
+use Rattle.whole.proofs.Branch.{branch, or-cond, and-cond}
 use Rattle.tape.proofs.order.may_come.Statement.{statement}
 use Rattle.tape.proofs.order.may_come.Tie as tie
 

@@ -1,7 +1,7 @@
 -- `project_next` meets its contract: the latitude is among the minutes of the rows.
 use borrow.Author.Needs.{needs}
 use Rattle.tape.specs.Tape.{projectNext}
-use Rattle.tape.proofs.Branch.{branch, cond-and}
+use Rattle.whole.proofs.Branch.{branch, cond-and}
 use Rattle.tape.proofs.order.project_next.Statement.{statement}
 use Rattle.tape.proofs.order.project_next.Tie as tie
 

@@ -1,6 +1,6 @@
 -- `room` meets its contract: its tests are those of the definition.
 use Rattle.tape.specs.Tape.{roomOf}
-use Rattle.tape.proofs.Branch.{branch}
+use Rattle.whole.proofs.Branch.{branch}
 use Rattle.tape.proofs.order.room.Statement.{statement}
 use Rattle.tape.proofs.order.room.Tie as tie
 

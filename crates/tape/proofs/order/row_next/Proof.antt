@@ -1,7 +1,7 @@
 -- `row_next` meets its contract: a first row, or one a minute above the last.
 use borrow.Author.Needs.{needs}
 use Rattle.tape.specs.Tape.{rowNext}
-use Rattle.tape.proofs.Branch.{branch, cond-or}
+use Rattle.whole.proofs.Branch.{branch, cond-or}
 use Rattle.tape.proofs.order.row_next.Statement.{statement}
 use Rattle.tape.proofs.order.row_next.Tie as tie
 

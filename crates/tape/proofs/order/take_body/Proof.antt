@@ -2,7 +2,7 @@
 use borrow.Author.Needs.{needs}
 use lib.ListN.{length-drop}
 use Rattle.tape.specs.Tape.{takeOf}
-use Rattle.tape.proofs.Branch.{told, told-true}
+use Rattle.whole.proofs.Branch.{told, told-true}
 use Rattle.tape.proofs.Bodies.{read-good, read-after, read-room, come-kind}
 use Rattle.tape.proofs.order.take_body.Statement.{statement}
 use Rattle.tape.proofs.order.take_body.Tie as tie

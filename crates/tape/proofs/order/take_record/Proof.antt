@@ -1,7 +1,7 @@
 -- `take_record` meets its contract: the kind is tested first.
 use borrow.Author.Needs.{needs}
 use Rattle.tape.specs.Tape.{stepOf, judge}
-use Rattle.tape.proofs.Branch.{told, told-true}
+use Rattle.whole.proofs.Branch.{told, told-true}
 use Rattle.tape.proofs.Numbers.{head-drop}
 use Rattle.tape.proofs.order.take_record.Statement.{statement}
 use Rattle.tape.proofs.order.take_record.Tie as tie

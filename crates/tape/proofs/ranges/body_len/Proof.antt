@@ -1,7 +1,6 @@
 -- `body_len` meets its contract: each arm is the sum of the widths in that row of the table.
 use Rattle.tape.specs.Record.{bodyOf, fieldsOf, table, total}
-use Rattle.tape.proofs.Branch.{branch}
-use Rattle.tape.proofs.Bodies.{cond-ap}
+use Rattle.whole.proofs.Branch.{branch, cond-ap}
 use Rattle.tape.proofs.ranges.body_len.Statement.{statement}
 use Rattle.tape.proofs.ranges.body_len.Tie as tie
 

@@ -1,7 +1,7 @@
 -- `with_leg` meets its contract: the test of the code is that of the definition.
 use borrow.Author.Needs.{needs}
 use Rattle.tape.specs.Fields.{putIn}
-use Rattle.tape.proofs.Branch.{branch}
+use Rattle.whole.proofs.Branch.{branch}
 use Rattle.tape.proofs.taking.with_leg.Statement.{statement}
 use Rattle.tape.proofs.taking.with_leg.Tie as tie
 

@@ -1,0 +1,67 @@
+-- What the C functions tell. Everywhere n is the number that is returned: of the refusal, or 0.
+use Prim.Native.Nat.{ℕ}
+use mathlib.Core.Path.{_≡_}
+use mathlib.Core.Bool.{Bool}
+use mathlib.Core.List.{List, [], _∷_}
+use lib.ListN.{length}
+use lib.IntN.{ℤ, pos}
+use Rattle.answer.specs.Told.{Told, passes}
+use Rattle.whole.specs.declared.Whole.{Whole}
+use Rattle.tape.specs.declared.Record.{Record}
+use Rattle.tape.specs.Record.{goodRecord, bytesOfRecord}
+use Rattle.tape.specs.Tape.{Told as Tape·Told}
+use Rattle.tape.specs.Write.{Told as Write·Told, told, answerOf, leftOf}
+use Rattle.desk.specs.Answer.{Told as Desk·Told}
+use Rattle.page.specs.Sheet.{Told as Page·Told, told as Page·told, paged, pagedBytes}
+
+-- ---- a step: v is the value that is stored; its place is always 0
+pub record TellsAmount (t : Told) (v : ℤ) (n : ℕ) : Type 0 where
+  pub number : n ≡ t .number
+  pub value : v ≡ t .value
+
+pub record TellsCount (t : Told) (v n : ℕ) : Type 0 where
+  pub number : n ≡ t .number
+  pub value : pos v ≡ t .value
+
+pub record TellsVerdict (t : Told) (v : Bool) (n : ℕ) : Type 0 where
+  pub number : n ≡ t .number
+  pub value : passes v ≡ t .value
+
+-- ---- the writer: p is the place that is stored, q the next place, and out′ what is left of the lent bytes
+pub record TellsWritten (t : Write·Told) (p q n : ℕ) : Type 0 where
+  pub number : n ≡ t .number
+  pub place : p ≡ t .place
+  pub next : q ≡ t .next
+
+pub record Writes (given : Record) (out : List ℕ) (at : ℕ) (out′ : List ℕ) (p q n : ℕ) : Type 0 where
+  pub tells : TellsWritten (told (answerOf out at (goodRecord given) (bytesOfRecord given))) p q n
+  pub left : out′ ≡ leftOf out at (goodRecord given) (bytesOfRecord given)
+
+-- ---- the reading
+pub record TellsReading (t : Tape·Told) (p n : ℕ) : Type 0 where
+  pub number : n ≡ t .number
+  pub place : p ≡ t .place
+
+-- ---- the traverse: l is the figures that are stored: n, W, both closures, the precision number, the doubled area, and 1 for a loop
+unfoldable pub figuresOf : Desk·Told → List ℤ
+figuresOf t = pos (t .legs) ∷ t .w ∷ t .north ∷ t .east ∷ pos (t .precision) ∷ t .area ∷ passes (t .loop) ∷ []
+
+-- amounts as numbers
+unfoldable pub values : List Whole → List ℤ
+values [] = []
+values (z ∷ l) = z .v ∷ values l
+
+pub record TellsTraverse (t : Desk·Told) (p : ℕ) (l : List ℤ) (n : ℕ) : Type 0 where
+  pub number : n ≡ t .number
+  pub place : p ≡ t .place
+  pub figures : l ≡ figuresOf t
+
+-- ---- the sheet, by the entries e of a table of sines: q is the length that is stored, and out′ what is left of the lent bytes
+pub record TellsPage (t : Page·Told) (p q n : ℕ) : Type 0 where
+  pub number : n ≡ t .number
+  pub place : p ≡ t .place
+  pub length : q ≡ t .length
+
+pub record Shows (e : ℕ → ℤ) (tape out out′ : List ℕ) (p q n : ℕ) : Type 0 where
+  pub tells : TellsPage (Page·told (paged e tape (length out))) p q n
+  pub left : out′ ≡ pagedBytes e tape out

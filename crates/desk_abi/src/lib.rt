@@ -1,0 +1,7 @@
+// The desk for programs in other languages: every public step, the record writer, the reading, the traverse and the sheet as C functions on numbers and
+// lists. Each is thin over the proved function, and promises the same definitions. What is told comes back as the refusal's number, 0 for none, and through
+// the caller's own numbers; nothing is allocated or kept.
+mod arithmetic;
+mod records;
+mod tapes;
+mod tell;

@@ -1,0 +1,73 @@
+// A whole tape: its reading, its traverse and its sheet.
+use crate::tell;
+ghost use mathlib.Core.Path.{_≡_};
+ghost use lib.ListN.{length};
+ghost use Rattle.sines.specs.Sine.{entry, entryIn};
+ghost use Rattle.tape.specs.Tape.{readingOf};
+ghost use Rattle.tape.specs.Tape.{told as Tape·told};
+ghost use Rattle.desk.specs.Answer.{traversed, traversedWords, traversedBy, traversedWordsBy};
+ghost use Rattle.desk_abi.specs.Face.{TellsReading, TellsTraverse, Shows};
+
+// The reading, by refusals 2 to 7.
+#[no_mangle]
+pub extern "C" fn vas_read(tape: &[u8], place: &mut usize) -> u32
+    ensures { λ r. ⌜ TellsReading (Tape·told (readingOf (now (tape .entry)))) (now (place .exit)) r ⌝ }
+{
+    tell::reading(tape::read(tape), place)
+}
+
+// The traverse, its stations in the caller's words.
+#[no_mangle]
+pub extern "C" fn vas_traverse(
+    tape: &[u8],
+    words: &mut [i64],
+    place: &mut usize,
+    figures: &mut [i64; 7],
+) -> u32
+    ensures told { λ r. ⌜ TellsTraverse (traversed (now (tape .entry)) (length (now (words .entry)))) (now (place .exit)) (now (figures .exit)) r ⌝ }
+    ensures words { λ r. ⌜ now (words .exit) ≡ traversedWords (now (tape .entry)) (now (words .entry)) ⌝ }
+{
+    tell::answer(desk::traverse(tape, words), place, figures)
+}
+
+// The same by the sines of a lent table, whatever it holds.
+#[no_mangle]
+pub extern "C" fn vas_traverse_in(
+    table: &[u32; 5401],
+    tape: &[u8],
+    words: &mut [i64],
+    place: &mut usize,
+    figures: &mut [i64; 7],
+) -> u32
+    ensures told { λ r. ⌜ TellsTraverse (traversedBy (entryIn (now (table .entry))) (now (tape .entry)) (length (now (words .entry)))) (now (place .exit)) (now (figures .exit)) r ⌝ }
+    ensures words { λ r. ⌜ now (words .exit) ≡ traversedWordsBy (entryIn (now (table .entry))) (now (tape .entry)) (now (words .entry)) ⌝ }
+{
+    tell::answer(desk::traverse_in(table, tape, words), place, figures)
+}
+
+// The sheet, its text in the caller's bytes.
+#[no_mangle]
+pub extern "C" fn vas_sheet(
+    tape: &[u8],
+    out: &mut [u8],
+    place: &mut usize,
+    length: &mut usize,
+) -> u32
+    ensures { λ r. ⌜ Shows entry (now (tape .entry)) (now (out .entry)) (now (out .exit)) (now (place .exit)) (now (length .exit)) r ⌝ }
+{
+    tell::page(page::sheet(tape, out), place, length)
+}
+
+// The same by the sines of a lent table, whatever it holds.
+#[no_mangle]
+pub extern "C" fn vas_sheet_in(
+    table: &[u32; 5401],
+    tape: &[u8],
+    out: &mut [u8],
+    place: &mut usize,
+    length: &mut usize,
+) -> u32
+    ensures { λ r. ⌜ Shows (entryIn (now (table .entry))) (now (tape .entry)) (now (out .entry)) (now (out .exit)) (now (place .exit)) (now (length .exit)) r ⌝ }
+{
+    tell::page(page::sheet_in(table, tape, out), place, length)
+}

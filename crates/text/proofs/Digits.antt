@@ -1,0 +1,136 @@
+-- How many digits a number has: one below ten, else one more than its tenth has. So it is the fewest that hold the number, and nothing is padded.
+use Prim.Native.Nat.{ℕ, zero, suc, _+_, _-_, _/_, _%_, _^_, _≤_, _<_}
+use native.Mathlib.Omega.{arith}
+use native.Mathlib.Decide.{decLt}
+use native.Mathlib.Nat.{pow-suc, one-le-pow}
+use mathlib.Core.Path.{_≡_, refl, sym, _∙_, ap}
+use mathlib.Core.List.{List, [], _∷_}
+use borrow.Author.Tests.{lt-ltb, le-ltb}
+use lib.ListN.{length, set, length-append}
+use lib.Seq.{sets}
+use mir.Syntax.{w64}
+use mir.Val.{Fits}
+use Rattle.text.specs.Text.{digits, placesIn, places, decimal}
+use Rattle.text.specs.Room.{Room, Put}
+use Rattle.text.proofs.Putting.{sets-last}
+
+placesIn-low : (f n : ℕ) → n < 10 → placesIn f n ≡ 1
+unfolding placesIn
+placesIn-low zero n h = refl
+placesIn-low (suc f) n h = rw (lt-ltb n 10 h)
+
+placesIn-high : (f n : ℕ) → 10 ≤ n → placesIn (suc f) n ≡ 1 + placesIn f (n / 10)
+unfolding placesIn
+placesIn-high f n h = rw (le-ltb n 10 h)
+
+-- any number of steps that is at least n is enough
+placesIn-enough : (f g n : ℕ) → n ≤ f → n ≤ g → placesIn f n ≡ placesIn g n
+placesIn-enough zero g n h i = rw (placesIn-low zero n (omega arith), placesIn-low g n (omega arith))
+placesIn-enough (suc f) zero n h i = rw (placesIn-low (suc f) n (omega arith), placesIn-low zero n (omega arith))
+placesIn-enough (suc f) (suc g) n h i =
+    elim (decLt n 10) [
+      | yes l ↦ rw (placesIn-low (suc f) n l, placesIn-low (suc g) n l)
+      | no l ↦ rw (placesIn-high f n (omega arith), placesIn-high g n (omega arith), placesIn-enough f g (n / 10) (omega arith) (omega arith))
+    ]
+
+pub places-low : (n : ℕ) → n < 10 → places n ≡ 1
+places-low n h = placesIn-low n n h
+
+pub places-high : (n : ℕ) → 10 ≤ n → places n ≡ 1 + places (n / 10)
+places-high zero h = absurd (omega arith)
+places-high (suc n) h = rw (placesIn-high n (suc n) h, placesIn-enough n (suc n / 10) (suc n / 10) (omega arith) (omega arith))
+
+-- few steps are enough for few digits
+placesIn-short : (f n : ℕ) → n < 10 ^ suc f → placesIn f n ≡ places n
+placesIn-short zero n h = rw (placesIn-low zero n (omega arith), places-low n (omega arith))
+placesIn-short (suc f) n h =
+    elim (decLt n 10) [
+      | yes l ↦ rw (placesIn-low (suc f) n l, places-low n l)
+      | no l ↦ rw (placesIn-high f n (omega arith), places-high n (omega arith), placesIn-short f (n / 10) (omega arith))
+    ]
+
+pub decimal-short : (f n : ℕ) → n < 10 ^ suc f → decimal n ≡ digits (placesIn f n) n
+unfolding decimal
+decimal-short f n h = rw (placesIn-short f n h)
+
+-- no more than k digits, where k digits hold the number
+pub places-most : (k n : ℕ) → n < 10 ^ suc k → places n ≤ suc k
+places-most zero n h = rw (places-low n (omega arith)) (omega arith)
+places-most (suc k) n h =
+    elim (decLt n 10) [
+      | yes l ↦ rw (places-low n l) (omega arith)
+      | no l ↦ rw (places-high n (omega arith)) (omega (arith, places-most k (n / 10) (omega arith)))
+    ]
+
+-- they hold it, and one fewer would not
+pub places-hold : (k n : ℕ) → places n ≤ k → n < 10 ^ k
+places-hold zero n h =
+    elim (decLt n 10) [
+      | yes l ↦ absurd (omega (arith, places-low n l))
+      | no l ↦ absurd (omega (arith, places-high n (omega arith)))
+    ]
+places-hold (suc k) n h =
+    elim (decLt n 10) [
+      | yes l ↦ omega (arith, pow-suc 10 k, one-le-pow k 10 (omega arith))
+      | no l ↦ omega (arith, pow-suc 10 k, places-hold k (n / 10) (omega (arith, places-high n (omega arith))))
+    ]
+
+pub places-fewest : (k n : ℕ) → suc k < places n → 10 ^ suc k ≤ n
+places-fewest k n h =
+    elim (decLt n (10 ^ suc k)) [
+      | yes l ↦ absurd (omega (arith, places-most k n l))
+      | no l ↦ omega arith
+    ]
+
+-- ---- the count of the code, a digit at a time
+module _ (k n rest : ℕ) (e : k + places rest ≡ 1 + places n) where
+  pub count-next : 9 < rest → k + 1 + places (rest / 10) ≡ 1 + places n
+  count-next h = omega (arith, places-high rest (omega arith))
+
+  pub count-last : rest ≤ 9 → k ≡ places n
+  count-last h = omega (arith, places-low rest (omega arith))
+
+  pub count-fits : Fits w64 n → 9 < rest → Fits w64 (k + 1)
+  count-fits f h = omega (arith, places-high rest (omega arith), places-most 19 n (omega (arith, f .fits)))
+
+-- ---- the digits of the code, the last one first
+pub digits-length : (k n : ℕ) → length (digits k n) ≡ k
+unfolding digits
+digits-length zero n = refl
+digits-length (suc k) n = omega (arith, length-append (digits k (n / 10)) ((48 + n % 10) ∷ []), digits-length k (n / 10))
+
+pub decimal-length : (n : ℕ) → length (decimal n) ≡ places n
+unfolding decimal
+decimal-length n = digits-length (places n) n
+
+last-digit : (l : List ℕ) (at k n : ℕ) → sets l at (digits (suc k) n) ≡ sets (set l (at + k) (48 + n % 10)) at (digits k (n / 10))
+unfolding digits
+last-digit l at k n =
+    sets-last (digits k (n / 10)) l (48 + n % 10) at
+    ∙ ap (λ (i : ℕ). sets (set l (at + i) (48 + n % 10)) at (digits k (n / 10))) (digits-length k (n / 10))
+
+module _ (l : List ℕ) (at k n : ℕ) where
+  pub digits-room : Room l at (digits k n) → at + k ≤ length l
+  digits-room h = omega (arith, digits-length k n)
+
+  module _ (m : List ℕ) (rest : ℕ) where
+    pub digit-next : (left : ℕ) → sets m at (digits left rest) ≡ sets l at (digits k n) → 0 < left
+        → sets (set m (at + (left - 1)) (48 + rest % 10)) at (digits (left - 1) (rest / 10)) ≡ sets l at (digits k n)
+    digit-next zero e h = absurd (omega arith)
+    digit-next (suc j) e h = let f : suc j - 1 ≡ j = omega arith in rw f (sym (last-digit m at j rest) ∙ e)
+
+    pub digit-last : (left : ℕ) → sets m at (digits left rest) ≡ sets l at (digits k n) → left ≤ 0 → Put l at (digits k n) m (at + k)
+    unfolding digits
+    digit-last left e h =
+        let f : left ≡ 0 = omega arith in
+        record { bytes = rw f at e; next = ap (λ (i : ℕ). at + i) (sym (digits-length k n)) }
+
+-- as many digits as the number has
+module _ (l m : List ℕ) (at k n r : ℕ) (e : k ≡ places n) where
+  pub decimal-room : Room l at (decimal n) → Room l at (digits k n)
+  unfolding decimal
+  decimal-room h = rw e h
+
+  pub decimal-put : Put l at (digits k n) m r → Put l at (decimal n) m r
+  unfolding decimal
+  decimal-put p = rw e at p

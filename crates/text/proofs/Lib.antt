@@ -1,0 +1,5 @@
+pub mod Amounts
+pub mod Digits
+pub mod Lengths
+pub mod Putting
+pub mod ReadBack

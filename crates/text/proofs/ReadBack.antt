@@ -1,0 +1,100 @@
+-- What is printed reads back as the number, so different amounts never print alike. It holds because the last k digits of n, read on from the number
+-- n / 10 ^ k before them, spell n, while the point and a plus are passed over and a minus stands first exactly where the amount is negative.
+use Prim.Native.Nat.{ℕ, zero, suc, _+_, _-_, _*_, _/_, _%_, _^_, _<_}
+use native.Mathlib.Omega.{arith}
+use native.Mathlib.Nat.{pow-succ', div-one, div-eq-of-lt, div-div-eq-div-mul}
+use mathlib.Core.Path.{_≡_, refl, sym, ap, _∙_}
+use mathlib.Core.Bool.{Bool, false, cond, _&&_}
+use mathlib.Core.List.{List, [], _∷_, _++_}
+use borrow.Author.Tests.{le-leb, le-ltb, ne-eqb}
+use lib.Dec.{leb, eqb}
+use lib.ListN.{getD}
+use lib.IntN.{ℤ, pos, negsuc, negℤ}
+use Rattle.text.specs.Text.{ascii, digits, places, decimal, pointed, sign, amount, signed, plain}
+use Rattle.text.proofs.Digits.{places-hold}
+
+-- the number that the digits of a text spell, read on from n; what is no digit is passed over
+unfoldable pub spelled : ℕ → List ℕ → ℕ
+spelled n [] = n
+spelled n (c ∷ cs) = spelled (cond (leb 48 c && leb c 57) (10 * n + (c - 48)) n) cs
+
+-- whether the text begins with a minus
+abbrev minus : List ℕ → Bool
+minus l = eqb (getD l 0 0) 45
+
+-- the amount: negative behind a minus
+unfoldable pub amountRead : List ℕ → ℤ
+amountRead l = cond (minus l) (negℤ (pos (spelled 0 l))) (pos (spelled 0 l))
+
+-- ---- a text behind a text
+spelled-append : (n : ℕ) (xs ys : List ℕ) → spelled n (xs ++ ys) ≡ spelled (spelled n xs) ys
+unfolding spelled
+spelled-append n [] ys = refl
+spelled-append n (x ∷ xs) ys = spelled-append _ xs ys
+
+minus-append : (xs ys : List ℕ) → minus xs ≡ false → minus ys ≡ false → minus (xs ++ ys) ≡ false
+minus-append [] ys h i = i
+minus-append (x ∷ xs) ys h i = h
+
+-- ---- digits
+digit-back : (n d : ℕ) → d < 10 → spelled n ((48 + d) ∷ []) ≡ 10 * n + d
+unfolding spelled
+digit-back n d h = rw (le-leb 48 (48 + d) (omega arith), le-leb (48 + d) 57 (omega arith)) (omega arith)
+
+digits-back : (k n : ℕ) → spelled (n / 10 ^ k) (digits k n) ≡ n
+unfolding digits spelled
+digits-back zero n = div-one n
+digits-back (suc k) n =
+    rw (before, spelled-append (n / 10 / 10 ^ k) (digits k (n / 10)) _, digits-back k (n / 10)) (digit-back (n / 10) (n % 10) (omega arith) ∙ omega arith)
+  where
+    before : n / 10 ^ suc k ≡ n / 10 / 10 ^ k
+    before = rw (pow-succ' 10 k) (sym (div-div-eq-div-mul n 10 (10 ^ k)))
+
+minus-digits : (k n : ℕ) → minus (digits k n) ≡ false
+unfolding digits
+minus-digits zero n = refl
+minus-digits (suc k) n = minus-append (digits k (n / 10)) _ (minus-digits k (n / 10)) (ne-eqb (48 + n % 10) 45 (λ e. omega arith))
+
+pub decimal-back : (n : ℕ) → spelled 0 (decimal n) ≡ n
+unfolding decimal
+decimal-back n = ap (λ (m : ℕ). spelled m (decimal n)) (sym (div-eq-of-lt (places-hold (places n) n (omega arith)))) ∙ digits-back (places n) n
+
+-- ---- amounts
+module _ (d n : ℕ) where
+  abbrev whole : List ℕ
+  whole = decimal (n / 10 ^ d)
+
+  pointed-back : spelled 0 (pointed d n) ≡ n
+  unfolding pointed spelled
+  pointed-back =
+      rw (spelled-append 0 (whole ++ ascii ".") (digits d n), spelled-append 0 whole (ascii "."), decimal-back (n / 10 ^ d)) (digits-back d n)
+
+  minus-pointed : minus (pointed d n) ≡ false
+  unfolding pointed decimal
+  minus-pointed =
+      minus-append (whole ++ ascii ".") (digits d n) (minus-append whole (ascii ".") (minus-digits _ (n / 10 ^ d)) refl) (minus-digits d n)
+
+-- whatever stands before an amount that is not negative, if it begins with no minus and spells nothing
+amount-back : (plus : List ℕ) → minus plus ≡ false → spelled 0 plus ≡ 0 → (d : ℕ) (z : ℤ) → amountRead (amount plus d z) ≡ z
+unfolding amount sign amountRead spelled
+amount-back plus m s d (pos n) =
+    rw (le-ltb n 0 (omega arith), minus-append plus (pointed d n) m (minus-pointed d n), spelled-append 0 plus (pointed d n), s, pointed-back d n)
+amount-back plus m s d (negsuc n) = rw (pointed-back d (suc n))
+
+pub signed-back : (d : ℕ) (z : ℤ) → amountRead (signed d z) ≡ z
+unfolding spelled
+signed-back d z = amount-back (ascii "+") refl refl d z
+
+pub plain-back : (d : ℕ) (z : ℤ) → amountRead (plain d z) ≡ z
+unfolding spelled
+plain-back d z = amount-back [] refl refl d z
+
+-- ---- different numbers never print alike
+pub decimal-alone : (m n : ℕ) → decimal m ≡ decimal n → m ≡ n
+decimal-alone m n e = sym (decimal-back m) ∙ ap (spelled 0) e ∙ decimal-back n
+
+pub signed-alone : (d : ℕ) (y z : ℤ) → signed d y ≡ signed d z → y ≡ z
+signed-alone d y z e = sym (signed-back d y) ∙ ap amountRead e ∙ signed-back d z
+
+pub plain-alone : (d : ℕ) (y z : ℤ) → plain d y ≡ plain d z → y ≡ z
+plain-alone d y z e = sym (plain-back d y) ∙ ap amountRead e ∙ plain-back d z

@@ -1,0 +1,38 @@
+-- `put_pointed` meets its contract: the whole ones, the point and the decimals are put one behind the other.
+use borrow.Author.Needs.{needs}
+use Rattle.text.proofs.Putting.{room-one, room-two, room-three, then}
+use Rattle.text.proofs.put_pointed.Statement.{statement}
+use Rattle.text.proofs.put_pointed.Tie as tie
+
+div-put-decimal : tie.Need-div-put-decimal
+div-put-decimal c = search needs
+
+put-decimal-requires : tie.Need-put-decimal-requires
+put-decimal-requires c κs = search room-one
+
+slice-aggregate-put : tie.Need-slice-aggregate-put
+slice-aggregate-put c = search needs
+
+put-requires : tie.Need-put-requires
+put-requires c κs = search room-two
+
+put-digits-requires : tie.Need-put-digits-requires
+put-digits-requires c κs = search room-three
+
+same-length : tie.Need-same-length
+same-length c = search needs
+
+returns : tie.Need-returns
+returns c = search then
+
+pub put-pointed-spec : {M : Type 1} → statement M
+put-pointed-spec =
+    tie.close
+    (tie.spec
+    div-put-decimal
+    put-decimal-requires
+    slice-aggregate-put
+    put-requires
+    put-digits-requires
+    same-length
+    returns)

@@ -1,0 +1,88 @@
+// Numbers and words as text, at a place of the lent bytes. Each writer answers the place behind what it wrote. A tool, as `whole` is: its functions ask
+// for room, and each of their callers is seen to have it.
+use whole::Whole;
+ghost use mathlib.Core.Path.{_≡_};
+ghost use mathlib.Core.List.{_++_};
+ghost use Prim.Native.Nat.{_/_, _^_, _<_};
+ghost use Rattle.text.specs.Text.{ascii, digits, decimal, sign, amount};
+ghost use Rattle.text.specs.Text.{places as Text·places};
+ghost use Rattle.text.specs.Room.{Room, Put};
+
+pub fn put(out: &mut [u8], at: usize, text: &[u8]) -> usize
+    requires { ⌜ Room (now out) at (now text) ⌝ }
+    ensures { λ r. ⌜ Put (now (out .entry)) at (now (text .entry)) (now (out .exit)) r ⌝ }
+{
+    let mut k: usize = 0;
+    while k < text.len() {
+        out[at + k] = text[k];
+        k = k + 1;
+    }
+    at + k
+}
+
+// How many digits a number has.
+fn places(n: u64) -> usize
+    ensures { λ r. ⌜ r ≡ Text·places n ⌝ }
+{
+    let mut k: usize = 1;
+    let mut rest = n;
+    while rest > 9 {
+        rest = rest / 10;
+        k = k + 1;
+    }
+    k
+}
+
+// The last k digits of a number, with zeros in front where it has fewer. The last one is put first.
+pub fn put_digits(out: &mut [u8], at: usize, n: u64, k: usize) -> usize
+    requires { ⌜ Room (now out) at (digits k n) ⌝ }
+    ensures { λ r. ⌜ Put (now (out .entry)) at (digits k n) (now (out .exit)) r ⌝ }
+{
+    let mut left = k;
+    let mut rest = n;
+    while left > 0 {
+        left = left - 1;
+        out[at + left] = (48 + rest % 10) as u8;
+        rest = rest / 10;
+    }
+    at + k
+}
+
+pub fn put_decimal(out: &mut [u8], at: usize, n: u64) -> usize
+    requires { ⌜ Room (now out) at (decimal n) ⌝ }
+    ensures { λ r. ⌜ Put (now (out .entry)) at (decimal n) (now (out .exit)) r ⌝ }
+{
+    let k = places(n);
+    put_digits(out, at, n, k)
+}
+
+// A number of units of which `unit` make a whole one, with d decimals.
+fn put_pointed(out: &mut [u8], at: usize, n: u64, d: usize, unit: u64) -> usize
+    requires { ⌜ 0 < unit ⌝ }
+    requires { ⌜ Room (now out) at (decimal (n / unit) ++ ascii "." ++ digits d n) ⌝ }
+    ensures { λ r. ⌜ Put (now (out .entry)) at (decimal (n / unit) ++ ascii "." ++ digits d n) (now (out .exit)) r ⌝ }
+{
+    let i = put_decimal(out, at, n / unit);
+    let j = put(out, i, b".");
+    put_digits(out, j, n, d)
+}
+
+fn put_sign(out: &mut [u8], at: usize, plus: &[u8], z: Whole) -> usize
+    requires { ⌜ Room (now out) at (sign (now plus) (z .v)) ⌝ }
+    ensures { λ r. ⌜ Put (now (out .entry)) at (sign (now (plus .entry)) (z .v)) (now (out .exit)) r ⌝ }
+{
+    if z.below_zero() {
+        return put(out, at, b"-");
+    }
+    put(out, at, plus)
+}
+
+// The same of an amount, behind its sign; `plus` stands before one that is not negative.
+pub fn put_amount(out: &mut [u8], at: usize, plus: &[u8], z: Whole, d: usize, unit: u64) -> usize
+    requires { ⌜ unit ≡ 10 ^ d ⌝ }
+    requires { ⌜ Room (now out) at (amount (now plus) d (z .v)) ⌝ }
+    ensures { λ r. ⌜ Put (now (out .entry)) at (amount (now (plus .entry)) d (z .v)) (now (out .exit)) r ⌝ }
+{
+    let i = put_sign(out, at, plus, z);
+    put_pointed(out, i, z.size(), d, unit)
+}
