@@ -20,7 +20,7 @@ def file_bytes(name: str, kind: str) -> bytes:
 class Examples(unittest.TestCase):
     def test_each_file_belongs_to_a_name(self) -> None:
         files = {f"{name}.{kind}" for name in NAMES for kind in ("txt", "tape", "sheet")}
-        self.assertEqual({path.name for path in FOLDER.iterdir()}, files | {"README.md"})
+        self.assertEqual({path.name for path in FOLDER.iterdir()}, files | {"README.md", "sheet.c"})
 
     def test_tapes_are_what_the_notes_say(self) -> None:
         for name in NAMES:

@@ -1,2 +1,3 @@
 pub mod Figures
+pub mod Single
 pub mod Telling

@@ -3,7 +3,7 @@ use mathlib.Core.Path.{_≡_, refl, sym, _∙_, ap}
 use mathlib.Core.Bool.{Bool, true, false, _&&_}
 use mathlib.Core.List.{List, [], _∷_}
 use Prim.Native.Nat.{ℕ, zero, suc, _+_, _*_, _/_, _%_, _≤_, _<_}
-use native.Mathlib.Nat.{le-of-suc-le-suc, not-suc-le-zero, mod-lt}
+use native.Mathlib.Nat.{le-of-suc-le-suc, not-suc-le-zero, mod-lt, mod-self, mod-eq-of-lt}
 use native.Mathlib.Numerals.{add-one}
 use native.Mathlib.Omega.{arith}
 use borrow.Author.Tests.{le-leb, lt-leb, leb-true}
@@ -64,12 +64,19 @@ module _ (l : List ℤ) (e : small l ≡ true) where
       sumTo-size (λ (i : ℕ). cross l i (nextStation l i)) (stations l) 33800000000000000
       (λ i h. cross-most i (nextStation l i) h (mod-lt (i + 1) (omega arith)))
 
+-- ---- the station after i, in code
+pub next-first : (i n : ℕ) → i + 1 ≡ n → 0 ≡ (i + 1) % n
+next-first i n e = rw e (sym (mod-self n))
+
+pub next-on : (i n : ℕ) → i < n → (i + 1 ≡ n → ⊥) → i + 1 ≡ (i + 1) % n
+next-on i n h e = sym (mod-eq-of-lt (omega arith))
+
 -- ---- the sum so far
-pub round-next : (l : List ℤ) (i n : ℕ) (sum z r : ℤ) → r ≡ sum +ℤ z → z ≡ cross l i ((i + 1) % n) → sum ≡ doubledTo l i → 2 * n ≡ length l → r ≡ doubledTo l (i + 1)
+pub round-next : (l : List ℤ) (i n j : ℕ) (sum z r : ℤ) → r ≡ sum +ℤ z → z ≡ cross l i j → j ≡ (i + 1) % n → sum ≡ doubledTo l i → 2 * n ≡ length l → r ≡ doubledTo l (i + 1)
 unfolding doubledTo sumTo nextStation
-round-next l i n sum z r e f g h =
+round-next l i n j sum z r e f m g h =
     let k : n ≡ length l / 2 = omega arith in
-    e ∙ rw (add-one i, g, f, k)
+    e ∙ rw (add-one i, g, f, m, k)
 
 pub round-last : (l : List ℤ) (i n : ℕ) (sum : ℤ) → sum ≡ doubledTo l i → i ≤ n → n ≤ i → 2 * n ≡ length l → sum ≡ doubled l
 round-last l i n sum e h k f = let g : i ≡ length l / 2 = omega arith in e ∙ ap (doubledTo l) g

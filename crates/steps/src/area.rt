@@ -3,7 +3,7 @@ use answer::Amount;
 use whole::Whole;
 ghost use mathlib.Core.Path.{_≡_};
 ghost use mathlib.Core.Bool.{true};
-ghost use Prim.Native.Nat.{_+_, _*_, _<_, _≤_};
+ghost use Prim.Native.Nat.{_+_, _*_, _%_, _<_, _≤_};
 ghost use lib.ListN.{length, getD};
 ghost use lib.IntN.{pos, natAbs};
 ghost use Rattle.answer.specs.Told.{told};
@@ -52,6 +52,17 @@ fn cross(offsets: &[i64], i: usize, j: usize) -> Whole
     ahead.minus(back)
 }
 
+// The station after i, round to the first: compared, since a division for each station would cost more than the rest of the sum.
+fn next(i: usize, n: usize) -> usize
+    requires { ⌜ i < n ⌝ }
+    ensures { λ r. ⌜ r ≡ (i + 1) % n ⌝ }
+{
+    if i + 1 == n {
+        return 0;
+    }
+    i + 1
+}
+
 // The sum round the stations.
 fn round(offsets: &[i64], n: usize) -> Whole
     requires { ⌜ small (now offsets) ≡ true ⌝ }
@@ -61,7 +72,7 @@ fn round(offsets: &[i64], n: usize) -> Whole
     let mut sum = Whole { v: 0 };
     let mut i: usize = 0;
     while i < n {
-        sum = sum.plus(cross(offsets, i, (i + 1) % n));
+        sum = sum.plus(cross(offsets, i, next(i, n)));
         i += 1;
     }
     sum

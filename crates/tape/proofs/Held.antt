@@ -44,7 +44,7 @@ pub record Ranged (f : Fields) : Type 0 where
   pub to : (f .to .north ≤ 1000000000) × (f .to .east ≤ 1000000000)
   pub given : f .given < 12960000
 
-no : {A : Type 0} → false ≡ true → A
+pub no : {A : Type 0} → false ≡ true → A
 no e = absurd (subst T (sym e) tt)
 
 -- ---- the numbers of a record in range, by their places

@@ -4,6 +4,8 @@ pub mod Gathering
 pub mod Held
 pub mod Longest
 pub mod Numbers
+pub mod Onward
+pub mod Passing
 pub mod Refusals
 pub mod Round
 pub mod Rows

@@ -52,11 +52,6 @@ pub step-whole : (st st′ : State) (l : List ℕ) → Next st′ ≡ stepOf st 
 unfolding stepOf
 step-whole st st′ l e = let k = getD l 0 0 in ltb-true _ _ (passed st st′ k (ltb (bodyOf k) (length l)) (numbersOf k l) e .whole)
 
--- and of a kind that may come
-pub step-comes : (st st′ : State) (l : List ℕ) → Next st′ ≡ stepOf st l → mayCome st (getD l 0 0) ≡ true
-unfolding stepOf
-step-comes st st′ l e = let k = getD l 0 0 in passed st st′ k (ltb (bodyOf k) (length l)) (numbersOf k l) e .comes
-
 module _ (s : List ℕ) (st : State) (at : ℕ) where
   -- the walk at a place within the tape
   pub at-front : at < length s → walk st at 0 (drop at s) ≡ onStep (stepOf st (drop at s)) at (λ st′. walk st′ (at + 1 + bodyOf (getD s at 0)) (bodyOf (getD s at 0)) (drop (suc at) s))

@@ -46,6 +46,12 @@ pub struct State {
     pub legs: u32,
 }
 
+// A place of the tape between two records, and the state there.
+struct Reached {
+    at: usize,
+    st: State,
+}
+
 // One record taken, or the number of its refusal.
 pub enum Step {
     Next(State),
@@ -111,11 +117,10 @@ pub fn take(tape: &[u8]) -> Taken
 {
     let reading = order::read_all(tape);
     match reading {
-        Reading::Reads(_st) => {
-            let mut fields = taking::gather(tape);
-            fields.scale = taking::find_scale(tape, fields.latitude);
-            Taken { reading, fields }
-        }
+        Reading::Reads(last) => Taken {
+            reading,
+            fields: taking::gather(tape, last),
+        },
         Reading::Refused { .. } => Taken {
             reading,
             fields: taking::none(),

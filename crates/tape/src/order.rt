@@ -1,4 +1,5 @@
-// The reading of one record of a tape, in the paper's order of tests.
+// The reading of a tape, each of its records in the paper's order of tests.
+use crate::Reached;
 use crate::Reading;
 use crate::Record;
 use crate::State;
@@ -11,6 +12,7 @@ ghost use Prim.Native.Nat.{_+_, _<_, _≤_};
 ghost use lib.Dec.{ltb};
 ghost use lib.ListN.{length, drop};
 ghost use Rattle.tape.specs.Record.{bodyOf, numbersOf, rec, recOf, goodRecord};
+ghost use Rattle.tape.specs.Passing.{RowDue, LegDue, Further};
 ghost use Rattle.tape.specs.Tape.{mayCome, roomOf, rowNext, projectNext, afterOf, takeOf, stepOf, readingOf};
 
 fn may_come(st: State, kind: u8) -> bool
@@ -57,7 +59,7 @@ fn room(st: State, kind: u8) -> u32
 }
 
 // The record of a kind at a place, from the tape's own bytes.
-pub fn record_at(s: &[u8], at: usize, kind: u8) -> Record
+fn record_at(s: &[u8], at: usize, kind: u8) -> Record
     requires { ⌜ at + (1 + bodyOf kind) ≤ length (now s) ⌝ }
     requires { ⌜ (1 ≤ kind) × (kind ≤ 5) ⌝ }
     ensures { λ r. ⌜ recOf r ≡ rec kind (numbersOf kind (drop at (now (s .entry)))) ⌝ }
@@ -191,7 +193,80 @@ pub fn take_record(s: &[u8], at: usize, st: State) -> Step
     Step::Stop(3)
 }
 
-// The whole tape, record after record: one pass, and nothing is copied.
+// Whether the row that is due stands at a place, whole and in range.
+fn row_due(tape: &[u8], at: usize, st: State) -> bool
+    requires { ⌜ at ≤ length (now tape) ⌝ }
+    ensures { λ r. ⌜ (r ≡ true → RowDue (now (tape .entry)) at st) ⌝ }
+{
+    if st.phase != 0 {
+        return false;
+    }
+    if st.rows >= 600 {
+        return false;
+    }
+    if tape.len() - at <= 6 {
+        return false;
+    }
+    if tape[at] != 5 {
+        return false;
+    }
+    let minute = digits::two_at(tape, at + 1);
+    if minute != st.next {
+        return false;
+    }
+    ranges::row_good(minute, digits::four_at(tape, at + 3))
+}
+
+// Whether one more leg stands at a place, whole and in range.
+fn leg_due(tape: &[u8], at: usize, st: State) -> bool
+    requires { ⌜ at ≤ length (now tape) ⌝ }
+    ensures { λ r. ⌜ (r ≡ true → LegDue (now (tape .entry)) at st) ⌝ }
+{
+    if st.phase != 2 {
+        return false;
+    }
+    if st.legs >= 64 {
+        return false;
+    }
+    if tape.len() - at <= 8 {
+        return false;
+    }
+    if tape[at] != 3 {
+        return false;
+    }
+    ranges::leg_good(digits::four_at(tape, at + 1), digits::four_at(tape, at + 5))
+}
+
+// Past the rows that are due. They come by the hundred, and so are told by the fewest tests; whatever stands behind them is left to `take_record`.
+fn pass_rows(tape: &[u8], from: Reached) -> Reached
+    requires { ⌜ from .at ≤ length (now tape) ⌝ }
+    ensures { λ r. ⌜ Further (now (tape .entry)) from r ⌝ }
+{
+    let mut at = from.at;
+    let mut st = from.st;
+    while row_due(tape, at, st) {
+        at = at + 7;
+        st.rows = st.rows + 1;
+        st.next = st.next + 1;
+    }
+    Reached { at, st }
+}
+
+// Past the legs that are due, in the same way.
+fn pass_legs(tape: &[u8], from: Reached) -> Reached
+    requires { ⌜ from .at ≤ length (now tape) ⌝ }
+    ensures { λ r. ⌜ Further (now (tape .entry)) from r ⌝ }
+{
+    let mut at = from.at;
+    let mut st = from.st;
+    while leg_due(tape, at, st) {
+        at = at + 9;
+        st.legs = st.legs + 1;
+    }
+    Reached { at, st }
+}
+
+// The whole tape, record after record: one pass, and nothing is copied. Behind a record that is taken, the rows or legs that are due are passed over.
 pub fn read_all(tape: &[u8]) -> Reading
     ensures { λ r. ⌜ r ≡ readingOf (now (tape .entry)) ⌝ }
 {
@@ -205,8 +280,10 @@ pub fn read_all(tape: &[u8]) -> Reading
     while at < tape.len() {
         match take_record(tape, at, st) {
             Step::Next(n) => {
-                st = n;
-                at = at + 1 + ranges::body_len(tape[at]);
+                let behind = at + 1 + ranges::body_len(tape[at]);
+                let on = pass_legs(tape, pass_rows(tape, Reached { at: behind, st: n }));
+                st = on.st;
+                at = on.at;
             }
             Step::Stop(number) => {
                 return Reading::Refused { number, place: at };

@@ -19,7 +19,7 @@ pub fn body_len(kind: u8) -> usize
     }
 }
 
-fn row_good(minute: u32, factor: u32) -> bool
+pub fn row_good(minute: u32, factor: u32) -> bool
     ensures { λ r. ⌜ r ≡ goodOf 5 (pos minute ∷ pos factor ∷ []) ⌝ }
 {
     if 5400 < minute {
@@ -55,7 +55,7 @@ fn start_good(northing: u32, easting: u32, mark: u32) -> bool
     mark <= 12959999
 }
 
-fn leg_good(angle: u32, distance: u32) -> bool
+pub fn leg_good(angle: u32, distance: u32) -> bool
     ensures { λ r. ⌜ r ≡ goodOf 3 (pos angle ∷ pos distance ∷ []) ⌝ }
 {
     if 12959999 < angle {

@@ -1,6 +1,6 @@
 -- `take` meets its contract: the fields are gathered where the reading reads, and are nothing where it refuses.
+use Rattle.tape.proofs.Gathering.{taken-reads, taken-refused}
 use borrow.Author.Needs.{needs}
-use Rattle.tape.proofs.Gathering.{does-read, taken-reads, taken-refused}
 use Rattle.tape.proofs.take.Statement.{statement}
 use Rattle.tape.proofs.take.Tie as tie
 
@@ -11,10 +11,7 @@ enum-known-reading : tie.Need-enum-known-reading
 enum-known-reading c = search needs
 
 gather-requires : tie.Need-gather-requires
-gather-requires c κs = search does-read
-
-find-scale-requires : tie.Need-find-scale-requires
-find-scale-requires c κs = search does-read
+gather-requires c κs = cc
 
 enum-told : tie.Need-enum-told
 enum-told c = search needs
@@ -35,7 +32,6 @@ take-spec =
     read-all-requires
     enum-known-reading
     gather-requires
-    find-scale-requires
     enum-told
     none-requires
     returns

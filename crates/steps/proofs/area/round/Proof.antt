@@ -21,17 +21,14 @@ loop-holds : tie.Need-loop-holds Inv-loop μ-loop
 unfolding doubledTo sumTo
 loop-holds c = (omega arith, refl, omega arith)
 
-add-cross : tie.Need-add-cross Inv-loop μ-loop
-add-cross c = omega arith
-
-rem-cross : tie.Need-rem-cross Inv-loop μ-loop
-rem-cross c = omega arith
+next-requires : tie.Need-next-requires Inv-loop μ-loop
+next-requires c κs = omega arith
 
 cross-requires : tie.Need-cross-requires Inv-loop μ-loop
 cross-requires c κs =
-    let s = c .before .before in
-    let m : (c .before .loop .i + 1) % s .args .n < s .args .n = mod-lt (c .before .loop .i + 1) (omega arith) in
-    (s .pre .0, (omega arith, omega arith))
+    let s = c .before .before .before in
+    let m : (c .before .before .loop .i + 1) % s .args .n < s .args .n = mod-lt (c .before .before .loop .i + 1) (omega arith) in
+    (s .pre .0, (omega arith, omega (arith, c .next .ensures)))
 
 plus-requires : tie.Need-plus-requires Inv-loop μ-loop
 plus-requires c κs = omega arith
@@ -55,8 +52,7 @@ round-spec =
     Inv-loop
     μ-loop
     loop-holds
-    add-cross
-    rem-cross
+    next-requires
     cross-requires
     plus-requires
     add-i

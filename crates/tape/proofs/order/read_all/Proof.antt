@@ -1,11 +1,12 @@
--- `read_all` meets its contract. The loop's invariant: the walk from the place reached, in the state reached, is the walk of the whole tape. The measure is
--- what is left of the tape.
+-- `read_all` meets its contract. The loop's invariant: the walk from the place reached, in the state reached, is the walk of the whole tape; a record that is
+-- taken keeps it, and so does the pass over what is due behind it. The measure is what is left of the tape.
 use mathlib.Core.Path.{_≡_}
-use Prim.Native.Nat.{_-_, _≤_}
+use Prim.Native.Nat.{_+_, _-_, _≤_}
 use native.Mathlib.Omega.{arith}
 use borrow.Author.Needs.{needs}
 use lib.ListN.{length, drop}
 use Rattle.tape.specs.Tape.{walk, start, readingOf}
+use Rattle.tape.proofs.Passing.{walk-further}
 use Rattle.tape.proofs.Walk.{walk-stop, next-whole, walk-next, walk-closed, walk-open}
 use Rattle.tape.proofs.order.read_all.Statement.{statement}
 use Rattle.tape.proofs.order.read_all.Tie as tie
@@ -25,8 +26,8 @@ take-record-requires c κs = search needs
 enum-known-n : tie.Need-enum-known-n Inv-loop μ-loop
 enum-known-n c = search needs
 
-add-at : tie.Need-add-at Inv-loop μ-loop
-add-at c = search needs
+add-behind : tie.Need-add-behind Inv-loop μ-loop
+add-behind c = search needs
 
 shared-slice-read-body-len : tie.Need-shared-slice-read-body-len Inv-loop μ-loop
 shared-slice-read-body-len c = search needs
@@ -34,14 +35,22 @@ shared-slice-read-body-len c = search needs
 body-len-requires : tie.Need-body-len-requires Inv-loop μ-loop
 body-len-requires c κs = search needs
 
-loop-again : tie.Need-loop-again Inv-loop μ-loop
-loop-again c = search (next-whole, walk-next)
+add-behind-2 : tie.Need-add-behind-2 Inv-loop μ-loop
+add-behind-2 c =
+    let whole : c .before .before .before .before .before .before .before .loop .at + 1 + c .body-len .result ≤ length (c .before .before .before .before .before .before .before .before .before .args .tape .now) = search next-whole in
+    omega arith
 
-add-at-2 : tie.Need-add-at-2 Inv-loop μ-loop
-add-at-2 c = omega (arith, loop-again c .0)
+pass-rows-requires : tie.Need-pass-rows-requires Inv-loop μ-loop
+pass-rows-requires c κs = search next-whole
+
+pass-legs-requires : tie.Need-pass-legs-requires Inv-loop μ-loop
+pass-legs-requires c κs = search needs
 
 loop-less : tie.Need-loop-less Inv-loop μ-loop
-loop-less c = omega (arith, loop-again c .0)
+loop-less c = search needs
+
+loop-again : tie.Need-loop-again Inv-loop μ-loop
+loop-again c = (search needs, search (walk-further, walk-next) depth 9)
 
 enum-known-number : tie.Need-enum-known-number Inv-loop μ-loop
 enum-known-number c = search needs
@@ -67,10 +76,12 @@ read-all-spec =
     loop-holds
     take-record-requires
     enum-known-n
-    add-at
+    add-behind
     shared-slice-read-body-len
     body-len-requires
-    add-at-2
+    add-behind-2
+    pass-rows-requires
+    pass-legs-requires
     loop-less
     loop-again
     enum-known-number

@@ -1,0 +1,292 @@
+/* The proved desk beside plain C, in one program and on the same tapes: first whether all answers are equal, then what
+ * a call costs. That is its time, printed as tables, where nothing else is asked for:
+ *
+ *     --csv        lines for plot.py in place of the tables
+ *     --emulated   says beside the times that the machine is not a real one
+ *     --marked     calls everything once, between calls of `mark`, for `run` to count the instructions
+ *     --counted    takes the costs so counted from standard input, in the same order
+ */
+#include <stdbool.h>
+#include <stdio.h>
+#include <stdlib.h>
+#include <string.h>
+#include <time.h>
+
+#include "plain.h"
+#include "tapes.h"
+#include "vastrudhil.h"
+
+static struct {
+    bool csv, emulated, marked, counted;
+} asked;
+
+static uint32_t sines[VAS_TABLE]; /* the table that is lent */
+
+/* All that a call may write. */
+struct answer {
+    uint32_t number;
+    size_t place;
+    size_t length;
+    int64_t figures[VAS_FIGURES];
+    int64_t words[VAS_WORDS];
+    uint8_t text[VAS_SHEET];
+};
+
+typedef void call(const struct tape *, struct answer *);
+
+static void traverse_desk(const struct tape *t, struct answer *a) {
+    a->number = vas_traverse(t->bytes, t->length, a->words, VAS_WORDS, &a->place, a->figures);
+}
+
+static void traverse_lent(const struct tape *t, struct answer *a) {
+    a->number = vas_traverse_in(sines, t->bytes, t->length, a->words, VAS_WORDS, &a->place, a->figures);
+}
+
+static void traverse_plain(const struct tape *t, struct answer *a) {
+    a->number = plain_traverse(t->bytes, t->length, a->words, VAS_WORDS, &a->place, a->figures);
+}
+
+static void sheet_desk(const struct tape *t, struct answer *a) {
+    a->number = vas_sheet(t->bytes, t->length, a->text, VAS_SHEET, &a->place, &a->length);
+}
+
+static void sheet_lent(const struct tape *t, struct answer *a) {
+    a->number = vas_sheet_in(sines, t->bytes, t->length, a->text, VAS_SHEET, &a->place, &a->length);
+}
+
+static void sheet_plain(const struct tape *t, struct answer *a) {
+    a->number = plain_sheet(t->bytes, t->length, a->text, VAS_SHEET, &a->place, &a->length);
+}
+
+enum form { DESK, LENT, PLAIN, FORMS };
+
+static const char *const form_names[FORMS] = {"desk", "table lent", "plain C"};
+
+/* ---- The tables and their lines */
+
+struct table {
+    const char *name, *title;
+    call *forms[FORMS];
+};
+
+static const struct table traverse = {"traverse", "traverse", {traverse_desk, traverse_lent, traverse_plain}};
+static const struct table sheet = {"sheet", "sheet", {sheet_desk, sheet_lent, sheet_plain}};
+static const struct table legs = {"legs", "traverse by legs, 2 rows", {traverse_desk, traverse_lent, traverse_plain}};
+static const struct table rows = {"rows", "traverse by rows, 4 legs", {traverse_desk, traverse_lent, traverse_plain}};
+
+struct line {
+    const struct table *table;
+    char name[40];
+    struct tape tape;
+    uint32_t number; /* what it is to be answered with */
+};
+
+static struct line lines[40];
+static size_t line_count;
+
+static void add(const struct table *table, const char *name, struct tape tape, uint32_t number) {
+    struct line *line = &lines[line_count++];
+    line->table = table;
+    snprintf(line->name, sizeof line->name, "%s", name);
+    line->tape = tape;
+    line->number = number;
+}
+
+static void add_named(const struct table *table) {
+    add(table, "4 legs 2 rows", traverse_tape(4, 2, 0), 0);
+    add(table, "16 legs 2 rows", traverse_tape(16, 2, 0), 0);
+    add(table, "64 legs 2 rows", traverse_tape(64, 2, 0), 0);
+    add(table, "4 legs 600 rows", traverse_tape(4, 600, 0), 0);
+    add(table, "refused late: 9 after 64 legs", traverse_tape(64, 2, 100), 9);
+    add(table, "refused early: 3 at byte 0", no_tape(), 3);
+}
+
+static void add_growth(const struct table *table, uint32_t at, uint32_t with_legs, uint32_t with_rows) {
+    char name[16];
+    snprintf(name, sizeof name, "%u", (unsigned)at);
+    add(table, name, traverse_tape(with_legs, with_rows, 0), with_rows == 0 ? 7 : 0); /* no row for the latitude */
+}
+
+static void add_all(void) {
+    add_named(&traverse);
+    add_named(&sheet);
+    for (uint32_t n = 1; n <= 64; n *= 2)
+        add_growth(&legs, n, n, 2);
+    add_growth(&rows, 0, 4, 0);
+    add_growth(&rows, 1, 4, 1);
+    for (uint32_t n = 100; n <= 600; n += 100)
+        add_growth(&rows, n, 4, n);
+}
+
+/* ---- Whether the answers are equal */
+
+static struct answer answered(call *form, const struct tape *t) {
+    struct answer a;
+    memset(&a, 0x5a, sizeof a); /* what is left as it was is compared too */
+    form(t, &a);
+    return a;
+}
+
+/* Where two answers differ first; nothing where they are equal. */
+static const char *difference(const struct answer *a, const struct answer *b) {
+    if (a->number != b->number)
+        return "number";
+    if (a->place != b->place)
+        return "place";
+    if (memcmp(a->figures, b->figures, sizeof a->figures) != 0)
+        return "figures";
+    if (memcmp(a->words, b->words, sizeof a->words) != 0)
+        return "words";
+    if (a->length != b->length)
+        return "length";
+    return memcmp(a->text, b->text, sizeof a->text) != 0 ? "text" : NULL;
+}
+
+static void demand_equal(const struct line *line) {
+    struct answer plain = answered(line->table->forms[PLAIN], &line->tape);
+    if (plain.number != line->number) {
+        fprintf(stderr, "%s, %s: answered with %u\n", line->table->title, line->name, (unsigned)plain.number);
+        exit(1);
+    }
+    for (enum form f = 0; f < PLAIN; f++) {
+        struct answer desk = answered(line->table->forms[f], &line->tape);
+        const char *where = difference(&desk, &plain);
+        if (where != NULL) {
+            fprintf(stderr, "%s, %s: %s (answers %u at %zu) and plain C (%u at %zu) differ in the %s\n",
+                    line->table->title, line->name, form_names[f], (unsigned)desk.number, desk.place,
+                    (unsigned)plain.number, plain.place, where);
+            exit(1);
+        }
+    }
+}
+
+/* ---- What a call costs */
+
+enum { ROUNDS = 15 };
+static const double BATCH_NS = 2e6;
+
+static double now_ns(void) {
+    struct timespec t;
+    clock_gettime(CLOCK_MONOTONIC, &t);
+    return (double)t.tv_sec * 1e9 + (double)t.tv_nsec;
+}
+
+static double batch_ns(call *form, const struct tape *t, unsigned long calls) {
+    static struct answer a;
+    double before = now_ns();
+    for (unsigned long i = 0; i < calls; i++)
+        form(t, &a);
+    return now_ns() - before;
+}
+
+/* Batches of all forms in turn, and the least time of each form: what disturbs one of them disturbs its neighbours. */
+static void time_calls(const struct line *line, double cost[FORMS]) {
+    unsigned long calls[FORMS];
+    for (enum form f = 0; f < FORMS; f++) {
+        cost[f] = 1e18;
+        calls[f] = 1;
+        while (batch_ns(line->table->forms[f], &line->tape, calls[f]) < BATCH_NS)
+            calls[f] *= 2;
+    }
+    for (int round = 0; round < ROUNDS; round++)
+        for (enum form f = 0; f < FORMS; f++) {
+            double ns = batch_ns(line->table->forms[f], &line->tape, calls[f]) / (double)calls[f];
+            if (ns < cost[f])
+                cost[f] = ns;
+        }
+}
+
+/* A name to find in a trace of the program, so neither inlined nor left out. */
+__attribute__((noinline)) static void mark(void) {
+    __asm__ volatile("");
+}
+
+static void mark_calls(const struct line *line) {
+    static struct answer a;
+    for (enum form f = 0; f < FORMS; f++) {
+        mark();
+        line->table->forms[f](&line->tape, &a);
+        mark();
+    }
+}
+
+static void take_counts(double cost[FORMS]) {
+    for (enum form f = 0; f < FORMS; f++)
+        if (scanf("%lf", &cost[f]) != 1) {
+            fputs("a count is missing\n", stderr);
+            exit(1);
+        }
+}
+
+/* ---- What is printed */
+
+static void print_first(void) {
+    const char *unit = asked.counted ? "instructions" : "nanoseconds";
+    if (asked.csv)
+        printf("table,at,form,%s\n", unit);
+    else
+        printf("All answers are equal. Costs in %s a call; x: times that of the plain C.\n", unit);
+    if (asked.emulated)
+        fputs("Emulated: the times mean nothing, and their ratios are an indication only.\n",
+              asked.csv ? stderr : stdout);
+}
+
+static void print_title(const char *title) {
+    if (!asked.csv)
+        printf("\n%-32s %10s %12s %10s %8s %8s\n", title, form_names[DESK], form_names[LENT], form_names[PLAIN],
+               "desk x", "lent x");
+}
+
+static void print_costs(const struct line *line, const double cost[FORMS]) {
+    if (asked.csv)
+        for (enum form f = 0; f < FORMS; f++)
+            printf("%s,%s,%s,%.1f\n", line->table->name, line->name, form_names[f], cost[f]);
+    else
+        printf("%-32s %10.0f %12.0f %10.0f %8.1f %8.1f\n", line->name, cost[DESK], cost[LENT], cost[PLAIN],
+               cost[DESK] / cost[PLAIN], cost[LENT] / cost[PLAIN]);
+    fflush(stdout);
+}
+
+static void print_all(void) {
+    print_first();
+    for (size_t i = 0; i < line_count; i++) {
+        double cost[FORMS];
+        if (asked.counted)
+            take_counts(cost);
+        else
+            time_calls(&lines[i], cost);
+        if (i == 0 || lines[i].table != lines[i - 1].table)
+            print_title(lines[i].table->title);
+        print_costs(&lines[i], cost);
+    }
+}
+
+static void ask(const char *argument) {
+    if (strcmp(argument, "--csv") == 0)
+        asked.csv = true;
+    else if (strcmp(argument, "--emulated") == 0)
+        asked.emulated = true;
+    else if (strcmp(argument, "--marked") == 0)
+        asked.marked = true;
+    else if (strcmp(argument, "--counted") == 0)
+        asked.counted = true;
+    else {
+        fprintf(stderr, "not known: %s\n", argument);
+        exit(2);
+    }
+}
+
+int main(int argc, char **argv) {
+    for (int i = 1; i < argc; i++)
+        ask(argv[i]);
+    vas_table(sines);
+    add_all();
+    for (size_t i = 0; i < line_count; i++)
+        demand_equal(&lines[i]);
+    if (!asked.marked)
+        print_all();
+    else
+        for (size_t i = 0; i < line_count; i++)
+            mark_calls(&lines[i]);
+    return 0;
+}

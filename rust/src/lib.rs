@@ -1,0 +1,471 @@
+//! Vastrudhil, the proved traverse desk, for programs in Rust.
+//!
+//! A *tape* is a list of bytes with the zone rows, the project, the start, the legs and the close
+//! of a survey traverse. The desk answers it with the adjusted traverse, or refuses it with a
+//! number and a place. The rules are those of paper 01; that the desk keeps them is proved, and
+//! this crate only hands its functions on, in memory that Rust looks after.
+//!
+//! ```
+//! # fn main() -> Result<(), vastrudhil::Refusal> {
+//! use vastrudhil::{sheet, TapeWriter};
+//!
+//! const DEGREE: u32 = 36_000;
+//! let mut yard = TapeWriter::new();
+//! yard.row(2650, 10_000_572)? // minute of latitude, scale factor
+//!     .project(2650, 1_196)? // mean latitude, mean elevation
+//!     .start(5_000_000, 200_000_000, 0)? // northing, easting, azimuth to the mark
+//!     .leg(180 * DEGREE, 1_000_000)? // angle right, distance
+//!     .leg(270 * DEGREE, 1_000_020)?
+//!     .leg(270 * DEGREE, 1_000_010)?
+//!     .leg(270 * DEGREE, 1_000_000)?
+//!     .close(90 * DEGREE + 5, 5_000_000, 200_000_000, 0)?;
+//!
+//! let text = sheet(yard.tape())?;
+//! assert!(text.starts_with("CLOSE W=+0.5 N=-0.01 E=+0.02 P=178886\n"));
+//! assert!(text.ends_with("AREA2 2000020.0000\n"));
+//! # Ok(())
+//! # }
+//! ```
+//!
+//! Every function takes any numbers and any bytes: what is out of range is refused. None keeps a
+//! state, so any number of threads may call at once.
+//!
+//! # Units
+//!
+//! Angles and azimuths are in tenths of a second, below 12,960,000, azimuths clockwise from south;
+//! coordinates, closures, latitudes and departures in hundredths of a foot; distances in
+//! thousandths of a foot; factors in ten-millionths; sines in units of the ninth decimal.
+//!
+//! # One table for many calls
+//!
+//! The functions that need sines copy the desk's table of them at each call. The forms that end in
+//! `_in` are lent a [`Table`] instead and answer the same.
+//!
+//! ```
+//! use vastrudhil::{sine, sine_in, Table};
+//!
+//! let table = Table::new();
+//! assert_eq!(sine_in(&table, 1_080_000), Ok(500_000_000)); // 30 degrees
+//! assert_eq!(sine_in(&table, 1_080_000), sine(1_080_000));
+//! ```
+
+#![deny(missing_docs)]
+
+mod sys;
+
+use std::error::Error;
+use std::fmt;
+
+/// How many bytes a lent sheet must have: [`sheet_into`].
+pub const SHEET: usize = sys::SHEET;
+
+/// Why the desk does not answer, and where (paper 01, Nine refusals).
+#[derive(Clone, Copy, Debug, PartialEq, Eq, Hash)]
+pub struct Refusal {
+    /// Which of the nine refusals it is: 1 to 9.
+    pub number: u32,
+    /// The place it is about, as bytes of the tape from 0; 0 for an arithmetic step and for lent
+    /// memory that is too small.
+    pub place: usize,
+}
+
+impl Refusal {
+    /// The refusal in words.
+    pub fn reason(&self) -> &'static str {
+        match self.number {
+            1 => "lent memory too small",
+            2 => "the tape ends too soon",
+            3 => "a kind that may not come here",
+            4 => "a field out of range",
+            5 => "a row too many, or out of turn",
+            6 => "a leg too many",
+            7 => "no row for the mean latitude",
+            8 => "angular misclosure too large",
+            9 => "position closure too large",
+            _ => "no refusal of the desk",
+        }
+    }
+}
+
+impl fmt::Display for Refusal {
+    fn fmt(&self, f: &mut fmt::Formatter<'_>) -> fmt::Result {
+        let Refusal { number, place } = self;
+        write!(f, "refusal {number} at {place}: {}", self.reason())
+    }
+}
+
+impl Error for Refusal {}
+
+/// A call that tells a place; 0 is the number of an accepted input.
+fn placed(call: impl FnOnce(&mut usize) -> u32) -> Result<(), Refusal> {
+    let mut place = 0;
+    match call(&mut place) {
+        0 => Ok(()),
+        number => Err(Refusal { number, place }),
+    }
+}
+
+/// A call that tells a value, and is refused at no place but 0.
+fn valued<T: Default>(call: impl FnOnce(&mut T) -> u32) -> Result<T, Refusal> {
+    let mut value = T::default();
+    placed(|_| call(&mut value))?;
+    Ok(value)
+}
+
+// ---- distances (paper 01, Distances)
+
+/// The sea level factor of a mean elevation of -1,000..20,000 feet.
+pub fn sea_level(elevation: i64) -> Result<u64, Refusal> {
+    valued(|value| sys::vas_sea_level(elevation, value))
+}
+
+/// The combined factor of a sea level factor and a scale factor, each 9,990,000..10,010,000.
+pub fn combine(sea: u64, scale: u64) -> Result<u64, Refusal> {
+    valued(|value| sys::vas_combine(sea, scale, value))
+}
+
+/// The grid distance of a measured one of 1,000..20,000,000, by a combined factor of
+/// 9,980,000..10,020,010.
+pub fn grid(distance: u64, factor: u64) -> Result<u64, Refusal> {
+    valued(|value| sys::vas_grid(distance, factor, value))
+}
+
+// ---- sines (paper 01, Sines)
+
+/// The desk's own table of sines, one for every whole minute from 0 to 90 degrees.
+///
+/// There is no other way to make one, so that what is answered with it is what the desk answers.
+#[derive(Clone, Debug, PartialEq, Eq)]
+pub struct Table(Box<[u32; sys::TABLE]>);
+
+impl Table {
+    /// The table, in memory of its own.
+    pub fn new() -> Self {
+        let mut table = Box::new([0; sys::TABLE]);
+        sys::vas_table(&mut table);
+        Table(table)
+    }
+
+    /// Its entries: the sine of 0 minutes first, that of 90 degrees last.
+    pub fn entries(&self) -> &[u32] {
+        &self.0[..]
+    }
+}
+
+impl Default for Table {
+    fn default() -> Self {
+        Self::new()
+    }
+}
+
+/// The sine of an angle.
+pub fn sine(angle: u32) -> Result<i64, Refusal> {
+    valued(|value| sys::vas_sine(angle, value))
+}
+
+/// The cosine of an angle.
+pub fn cosine(angle: u32) -> Result<i64, Refusal> {
+    valued(|value| sys::vas_cosine(angle, value))
+}
+
+/// [`sine`] by a lent table.
+pub fn sine_in(table: &Table, angle: u32) -> Result<i64, Refusal> {
+    valued(|value| sys::vas_sine_in(&table.0, angle, value))
+}
+
+/// [`cosine`] by a lent table.
+pub fn cosine_in(table: &Table, angle: u32) -> Result<i64, Refusal> {
+    valued(|value| sys::vas_cosine_in(&table.0, angle, value))
+}
+
+// ---- azimuths (paper 01, Azimuths and legs)
+
+/// The azimuth of leg 1, from the azimuth to the mark and the angle right.
+pub fn from_mark(mark: u32, angle: u32) -> Result<u64, Refusal> {
+    valued(|value| sys::vas_from_mark(mark, angle, value))
+}
+
+/// The azimuth of each next leg, and the closing one, from the azimuth before and the angle right.
+pub fn onward(before: u32, angle: u32) -> Result<u64, Refusal> {
+    valued(|value| sys::vas_onward(before, angle, value))
+}
+
+/// The angular misclosure W: carried less given, above minus half a circle and at most half a
+/// circle.
+pub fn misclosure(carried: u32, given: u32) -> Result<i64, Refusal> {
+    valued(|value| sys::vas_misclosure(carried, given, value))
+}
+
+/// Whether a misclosure of size up to 6,480,000 is within its limit over `n` legs, 1..64.
+pub fn closes_angles(w: i64, n: u64) -> Result<bool, Refusal> {
+    valued(|value| sys::vas_closes_angles(w, n, value))
+}
+
+/// The share of a misclosure of size up to 6,480,000 at the `j`-th of `n` + 1 angles, `n` of 1..64
+/// and `j` of 0..`n` + 1.
+pub fn angle_share(w: i64, j: u64, n: u64) -> Result<i64, Refusal> {
+    valued(|value| sys::vas_angle_share(w, j, n, value))
+}
+
+/// The balanced azimuth: the carried one less a share of size up to 6,480,000.
+pub fn balanced(azimuth: u32, share: i64) -> Result<u64, Refusal> {
+    valued(|value| sys::vas_balanced(azimuth, share, value))
+}
+
+// ---- latitude and departure (paper 01, Azimuths and legs)
+
+/// The latitude, how far north, of a grid distance of 0..20,100,000 along an azimuth.
+pub fn latitude(distance: u64, azimuth: u32) -> Result<i64, Refusal> {
+    valued(|value| sys::vas_latitude(distance, azimuth, value))
+}
+
+/// The departure, how far east, of a grid distance of 0..20,100,000 along an azimuth.
+pub fn departure(distance: u64, azimuth: u32) -> Result<i64, Refusal> {
+    valued(|value| sys::vas_departure(distance, azimuth, value))
+}
+
+/// [`latitude`] by a lent table.
+pub fn latitude_in(table: &Table, distance: u64, azimuth: u32) -> Result<i64, Refusal> {
+    valued(|value| sys::vas_latitude_in(&table.0, distance, azimuth, value))
+}
+
+/// [`departure`] by a lent table.
+pub fn departure_in(table: &Table, distance: u64, azimuth: u32) -> Result<i64, Refusal> {
+    valued(|value| sys::vas_departure_in(&table.0, distance, azimuth, value))
+}
+
+// ---- closure and compass rule (paper 01, Closure and compass rule)
+
+/// Whether closures of size up to 1,200,000,000 are within the limit, for a sum `s` of grid
+/// distances of 1..1,300,000,000.
+pub fn closes(north: i64, east: i64, s: u64) -> Result<bool, Refusal> {
+    valued(|value| sys::vas_closes(north, east, s, value))
+}
+
+/// The precision number of closures of size up to 26,000, for a sum `s` of grid distances of
+/// 1..1,300,000,000; 0 where both closures are 0.
+pub fn precision(north: i64, east: i64, s: u64) -> Result<u64, Refusal> {
+    valued(|value| sys::vas_precision(north, east, s, value))
+}
+
+/// The share of a closure of size up to 26,000 at a part, 0..`whole`, of a whole,
+/// 1..1,300,000,000.
+pub fn share(closure: i64, part: u64, whole: u64) -> Result<i64, Refusal> {
+    valued(|value| sys::vas_share(closure, part, whole, value))
+}
+
+/// The doubled area of 1 to 64 stations, clockwise positive: `[northing, easting]` of each, as
+/// offsets of size up to 130,000,000.
+pub fn doubled_area(offsets: &[[i64; 2]]) -> Result<i64, Refusal> {
+    let words = offsets.as_flattened();
+    // SAFETY: pointer and length are those of one list.
+    valued(|value| unsafe { sys::vas_doubled_area(words.as_ptr(), words.len(), value) })
+}
+
+// ---- writing a tape (paper 01, The tape)
+
+/// A tape under way: records are put behind one another, each by the desk's own writer.
+///
+/// The writer tests each record by itself. Whether the records make a tape together, [`read`] says.
+#[derive(Clone, Debug, Default, PartialEq, Eq)]
+pub struct TapeWriter {
+    bytes: Vec<u8>,
+}
+
+impl TapeWriter {
+    /// An empty tape.
+    pub fn new() -> Self {
+        Self::default()
+    }
+
+    /// A row of the zone table: minute 0..5,400, scale factor 9,990,000..10,010,000.
+    pub fn row(&mut self, minute: u32, factor: u32) -> Result<&mut Self, Refusal> {
+        // SAFETY: `put` lends pointer and length of one list.
+        self.put(|out, len, at, place, next| unsafe {
+            sys::vas_write_row(out, len, at, minute, factor, place, next)
+        })
+    }
+
+    /// The project: its mean latitude 0..5,400 in minutes, its mean elevation -1,000..20,000 in
+    /// feet.
+    pub fn project(&mut self, latitude: u32, elevation: i64) -> Result<&mut Self, Refusal> {
+        // SAFETY: `put` lends pointer and length of one list.
+        self.put(|out, len, at, place, next| unsafe {
+            sys::vas_write_project(out, len, at, latitude, elevation, place, next)
+        })
+    }
+
+    /// The start: a fixed point of 0..1,000,000,000 each way, and the azimuth to the mark.
+    pub fn start(&mut self, northing: u32, easting: u32, mark: u32) -> Result<&mut Self, Refusal> {
+        // SAFETY: `put` lends pointer and length of one list.
+        self.put(|out, len, at, place, next| unsafe {
+            sys::vas_write_start(out, len, at, northing, easting, mark, place, next)
+        })
+    }
+
+    /// A leg: its angle right, its measured distance 1,000..20,000,000.
+    pub fn leg(&mut self, angle: u32, distance: u32) -> Result<&mut Self, Refusal> {
+        // SAFETY: `put` lends pointer and length of one list.
+        self.put(|out, len, at, place, next| unsafe {
+            sys::vas_write_leg(out, len, at, angle, distance, place, next)
+        })
+    }
+
+    /// The close: the closing angle, the fixed end, and the azimuth to the closing mark.
+    pub fn close(
+        &mut self,
+        angle: u32,
+        northing: u32,
+        easting: u32,
+        mark: u32,
+    ) -> Result<&mut Self, Refusal> {
+        // SAFETY: `put` lends pointer and length of one list.
+        self.put(|out, len, at, place, next| unsafe {
+            sys::vas_write_close(out, len, at, angle, northing, easting, mark, place, next)
+        })
+    }
+
+    /// The tape so far.
+    pub fn tape(&self) -> &[u8] {
+        &self.bytes
+    }
+
+    /// The tape, given away.
+    pub fn into_tape(self) -> Vec<u8> {
+        self.bytes
+    }
+
+    /// Makes room for the longest record, has one written, and keeps what it filled: nothing on a
+    /// refusal.
+    fn put(
+        &mut self,
+        write: impl FnOnce(*mut u8, usize, usize, &mut usize, &mut usize) -> u32,
+    ) -> Result<&mut Self, Refusal> {
+        const LONGEST: usize = 17;
+        let at = self.bytes.len();
+        self.bytes.resize(at + LONGEST, 0);
+        let out = &mut self.bytes[..];
+        let mut next = 0;
+        let written = placed(|place| write(out.as_mut_ptr(), out.len(), at, place, &mut next));
+        self.bytes.truncate(if written.is_ok() { next } else { at });
+        written.map(|()| self)
+    }
+}
+
+// ---- a whole tape
+
+/// The reading: whether the bytes are a tape, by refusals 2 to 7.
+pub fn read(tape: &[u8]) -> Result<(), Refusal> {
+    // SAFETY: pointer and length are those of one list.
+    placed(|place| unsafe { sys::vas_read(tape.as_ptr(), tape.len(), place) })
+}
+
+/// An adjusted traverse.
+#[derive(Clone, Debug, PartialEq, Eq)]
+pub struct Traverse {
+    /// W, the angular misclosure.
+    pub w: i64,
+    /// The closure in northing.
+    pub north: i64,
+    /// The closure in easting.
+    pub east: i64,
+    /// The precision number, 1 in so many; 0 where both closures are 0.
+    pub precision: u64,
+    /// The doubled area of a loop in 0.0001 square foot, clockwise positive.
+    pub doubled_area: Option<i64>,
+    legs: usize,
+    stations: [[i64; 2]; sys::WORDS / 2],
+}
+
+impl Traverse {
+    /// The number of legs, 1 to 64.
+    pub fn legs(&self) -> usize {
+        self.legs
+    }
+
+    /// The adjusted `[northing, easting]` of every station, from the fixed start to the fixed end:
+    /// one more than there are legs.
+    pub fn stations(&self) -> &[[i64; 2]] {
+        &self.stations[..=self.legs]
+    }
+}
+
+/// The traverse that a call adjusts, from the words and figures that it fills.
+fn adjusted(
+    call: impl FnOnce(*mut i64, usize, &mut usize, &mut [i64; sys::FIGURES]) -> u32,
+) -> Result<Traverse, Refusal> {
+    let mut stations = [[0; 2]; sys::WORDS / 2];
+    let mut figures = [0; sys::FIGURES];
+    let words = stations.as_flattened_mut();
+    placed(|place| call(words.as_mut_ptr(), words.len(), place, &mut figures))?;
+    Ok(Traverse {
+        w: figures[sys::W],
+        north: figures[sys::NORTH],
+        east: figures[sys::EAST],
+        precision: figures[sys::PRECISION] as u64,
+        doubled_area: (figures[sys::LOOP] == 1).then_some(figures[sys::AREA]),
+        legs: figures[sys::LEGS] as usize,
+        stations,
+    })
+}
+
+/// The adjusted traverse of a tape, or one of refusals 2 to 9.
+pub fn traverse(tape: &[u8]) -> Result<Traverse, Refusal> {
+    let (tape, tape_len) = (tape.as_ptr(), tape.len());
+    // SAFETY: pointers and lengths are those of the tape, and of a list that `adjusted` lends.
+    adjusted(|words, len, place, figures| unsafe {
+        sys::vas_traverse(tape, tape_len, words, len, place, figures)
+    })
+}
+
+/// [`traverse`] by a lent table.
+pub fn traverse_in(table: &Table, tape: &[u8]) -> Result<Traverse, Refusal> {
+    let (tape, tape_len) = (tape.as_ptr(), tape.len());
+    // SAFETY: as in `traverse`.
+    adjusted(|words, len, place, figures| unsafe {
+        sys::vas_traverse_in(&table.0, tape, tape_len, words, len, place, figures)
+    })
+}
+
+/// The text that a call writes at the front of `out`.
+fn shown(
+    out: &mut [u8],
+    call: impl FnOnce(*mut u8, usize, &mut usize, &mut usize) -> u32,
+) -> Result<&str, Refusal> {
+    let mut length = 0;
+    placed(|place| call(out.as_mut_ptr(), out.len(), place, &mut length))?;
+    Ok(std::str::from_utf8(&out[..length]).expect("a sheet is in ASCII"))
+}
+
+/// The sheet of a tape, or one of refusals 2 to 9.
+pub fn sheet(tape: &[u8]) -> Result<String, Refusal> {
+    sheet_into(tape, &mut [0; SHEET]).map(str::to_owned)
+}
+
+/// [`sheet`] by a lent table.
+pub fn sheet_in(table: &Table, tape: &[u8]) -> Result<String, Refusal> {
+    sheet_into_in(table, tape, &mut [0; SHEET]).map(str::to_owned)
+}
+
+/// The sheet of a tape, written at the front of lent memory of [`SHEET`] bytes or more; less is
+/// refused with 1. What stands behind the text is left as it was, and on a refusal all of it is.
+pub fn sheet_into<'a>(tape: &[u8], out: &'a mut [u8]) -> Result<&'a str, Refusal> {
+    let (tape, tape_len) = (tape.as_ptr(), tape.len());
+    // SAFETY: pointers and lengths are those of the tape, and of `out`, which `shown` lends on.
+    shown(out, |out, len, place, length| unsafe {
+        sys::vas_sheet(tape, tape_len, out, len, place, length)
+    })
+}
+
+/// [`sheet_into`] by a lent table.
+pub fn sheet_into_in<'a>(
+    table: &Table,
+    tape: &[u8],
+    out: &'a mut [u8],
+) -> Result<&'a str, Refusal> {
+    let (tape, tape_len) = (tape.as_ptr(), tape.len());
+    // SAFETY: as in `sheet_into`.
+    shown(out, |out, len, place, length| unsafe {
+        sys::vas_sheet_in(&table.0, tape, tape_len, out, len, place, length)
+    })
+}
