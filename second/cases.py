@@ -2,8 +2,8 @@
 
 `python3 -m second.cases bundle` writes the bundle to standard output: each case behind
 the letter of its subject. `python3 -m second.cases expected` prints what is answered to
-each of them, in order. How a case stands in the bundle, and how it is answered, is said
-by its subject's module.
+each of them, in order. Letters behind either word leave out all other subjects. How a case
+stands in the bundle, and how it is answered, is said by its subject's module.
 """
 
 import sys
@@ -19,15 +19,16 @@ def bundle(letter: str, cases: Iterable) -> bytes:
     return b"".join(letter.encode() + SUBJECTS[letter].packed(case) for case in cases)
 
 
-def main(wanted: str) -> None:
-    """Write the bundle or the answers, as wanted."""
+def main(wanted: str, *letters: str) -> None:
+    """Write the bundle or the answers, as wanted: of the subjects with these letters, or of all."""
+    if wanted not in ("bundle", "expected") or not SUBJECTS.keys() >= set(letters):
+        sys.exit(f"wanted: bundle or expected, then none or some of {' '.join(SUBJECTS)}")
+    subjects = {letter: subject for letter, subject in SUBJECTS.items() if letter in (letters or SUBJECTS)}
     if wanted == "bundle":
-        sys.stdout.buffer.writelines(bundle(letter, subject.cases()) for letter, subject in SUBJECTS.items())
-    elif wanted == "expected":
-        sys.stdout.writelines(subject.expected(case) for subject in SUBJECTS.values() for case in subject.cases())
+        sys.stdout.buffer.writelines(bundle(letter, subject.cases()) for letter, subject in subjects.items())
     else:
-        sys.exit("wanted: bundle or expected")
+        sys.stdout.writelines(subject.expected(case) for subject in subjects.values() for case in subject.cases())
 
 
 if __name__ == "__main__":
-    main(sys.argv[1] if len(sys.argv) == 2 else "")
+    main(*sys.argv[1:] or [""])

@@ -12,8 +12,8 @@ from second.step_cases import Call
 ROOT = Path(__file__).resolve().parent.parent
 
 
-def program(wanted: str) -> subprocess.CompletedProcess:
-    return subprocess.run([sys.executable, "-m", "second.cases", wanted], capture_output=True, cwd=ROOT)
+def program(*words: str) -> subprocess.CompletedProcess:
+    return subprocess.run([sys.executable, "-m", "second.cases", *words], capture_output=True, cwd=ROOT)
 
 
 class Cases(unittest.TestCase):
@@ -33,8 +33,18 @@ class Cases(unittest.TestCase):
         self.assertEqual(program("bundle").stdout, wanted)
         self.assertLess(len(wanted), 2_100_000)
 
+    def test_program_writes_some_subjects_in_the_order_of_the_bundle(self):
+        wanted = b"".join(bundle(letter, SUBJECTS[letter].cases()) for letter in "SA")
+        self.assertEqual(program("bundle", "A", "S").stdout, wanted)
+
+    def test_program_prints_what_is_answered_of_some_subjects(self):
+        wanted = "".join(SUBJECTS[letter].expected(case) for letter in "SA" for case in SUBJECTS[letter].cases())
+        self.assertEqual(program("expected", "A", "S").stdout, wanted.encode())
+
     def test_program_asks_for_a_word(self):
-        self.assertEqual(program("bundles").returncode, 1)
+        for words in ((), ("bundles",), ("expected", "X"), ("T",), ("expected", "T", "expected")):
+            with self.subTest(words):
+                self.assertEqual(program(*words).returncode, 1)
 
 
 if __name__ == "__main__":

@@ -4,8 +4,23 @@ use answer::Count;
 use answer::Verdict;
 use whole::Whole;
 ghost use mathlib.Core.Path.{_≡_};
+ghost use Prim.Native.Nat.{_%_, _<_};
 ghost use Rattle.answer.specs.Told.{told, toldCount, toldVerdict};
 ghost use Rattle.steps.specs.Azimuth.{fromMarkStep, onwardStep, misclosureStep, misclosureTest, balancedStep};
+
+// A sum of less than three circles, modulo the circle. It is compared and not divided: along the legs each azimuth waits for the one before it.
+fn modulo(sum: u32) -> u32
+    requires { ⌜ sum < 38880000 ⌝ }
+    ensures { λ r. ⌜ r ≡ sum % 12960000 ⌝ }
+{
+    if sum < 12960000 {
+        return sum;
+    }
+    if sum < 25920000 {
+        return sum - 12960000;
+    }
+    sum - 25920000
+}
 
 // The azimuth of leg 1, from the azimuth to the mark and its angle right.
 pub fn from_mark(mark: u32, angle: u32) -> Count
@@ -17,7 +32,7 @@ pub fn from_mark(mark: u32, angle: u32) -> Count
     if 12960000 <= angle {
         return Count::OutOfRange;
     }
-    Count::Is(((mark + angle) % 12960000) as u64)
+    Count::Is(modulo(mark + angle) as u64)
 }
 
 // The azimuth of each next leg, and the closing azimuth, from the azimuth before and the angle right there.
@@ -30,7 +45,7 @@ pub fn onward(before: u32, angle: u32) -> Count
     if 12960000 <= angle {
         return Count::OutOfRange;
     }
-    Count::Is(((before + 6480000 + angle) % 12960000) as u64)
+    Count::Is(modulo(before + 6480000 + angle) as u64)
 }
 
 // The angular misclosure: carried less given, the short way round.

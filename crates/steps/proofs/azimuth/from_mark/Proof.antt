@@ -10,8 +10,11 @@ returns c = search ranges depth 8
 returns-2 : tie.Need-returns-2
 returns-2 c = search ranges depth 8
 
-add-t4 : tie.Need-add-t4
-add-t4 c = search needs
+add-modulo : tie.Need-add-modulo
+add-modulo c = search needs
+
+modulo-requires : tie.Need-modulo-requires
+modulo-requires c κs = search needs
 
 cast-t6 : tie.Need-cast-t6
 cast-t6 c = search needs
@@ -20,4 +23,5 @@ returns-3 : tie.Need-returns-3
 returns-3 c = search ranges depth 8
 
 pub from-mark-spec : {M : Type 1} → statement M
-from-mark-spec = tie.close (tie.spec returns returns-2 add-t4 cast-t6 returns-3)
+from-mark-spec =
+    tie.close (tie.spec returns returns-2 add-modulo modulo-requires cast-t6 returns-3)

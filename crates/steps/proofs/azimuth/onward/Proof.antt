@@ -10,11 +10,14 @@ returns c = search ranges depth 8
 returns-2 : tie.Need-returns-2
 returns-2 c = search ranges depth 8
 
-add-t4 : tie.Need-add-t4
-add-t4 c = search needs
+add-modulo : tie.Need-add-modulo
+add-modulo c = search needs
 
-add-t5 : tie.Need-add-t5
-add-t5 c = search needs
+add-modulo-2 : tie.Need-add-modulo-2
+add-modulo-2 c = search needs
+
+modulo-requires : tie.Need-modulo-requires
+modulo-requires c κs = search needs
 
 cast-t7 : tie.Need-cast-t7
 cast-t7 c = search needs
@@ -23,4 +26,6 @@ returns-3 : tie.Need-returns-3
 returns-3 c = search ranges depth 8
 
 pub onward-spec : {M : Type 1} → statement M
-onward-spec = tie.close (tie.spec returns returns-2 add-t4 add-t5 cast-t7 returns-3)
+onward-spec =
+    tie.close
+    (tie.spec returns returns-2 add-modulo add-modulo-2 modulo-requires cast-t7 returns-3)
