@@ -54,23 +54,15 @@ fn print_answer(answer: Answer) {
             print_place(number, place);
             print(b" 0 0 0 0 0 0 0");
         }
-        Answer::Adjusted {
-            legs,
-            w,
-            north,
-            east,
-            precision,
-            area,
-            is_loop,
-        } => {
+        Answer::Adjusted(f) => {
             print_place(0, 0);
-            print_count(legs as u64);
-            print_amount(w);
-            print_amount(north);
-            print_amount(east);
-            print_count(precision);
-            print_amount(area);
-            print_count(is_loop as u64);
+            print_count(f.legs as u64);
+            print_amount(f.w);
+            print_amount(f.north);
+            print_amount(f.east);
+            print_count(f.precision);
+            print_amount(f.area);
+            print_count(f.looped as u64);
         }
     }
 }

@@ -225,7 +225,7 @@ module _ (e : ℕ → ℤ) (entries : Entries e) (b : Balanced) (sound : Sound b
       words-far l y = rw (← test-is, y)
 
       pub second-near : (p : ℕ) (a : Whole) (o : Bool) → x ≡ true → p ≡ precision (c .north .v) (c .east .v) (c .run) → a .v ≡ areaOf e b → o ≡ isLoop b
-          → told (Adjusted (b .legs) (b .w) (c .north) (c .east) p a o) ≡ second e b
+          → told (Adjusted (record { legs = b .legs; w = b .w; north = c .north; east = c .east; precision = p; area = a; looped = o })) ≡ second e b
       unfolding second
       second-near p a o y f g h = rw (← test-is, y, ← north-is, ← east-is, ← run-is, ← f, ← g, ← h)
 

@@ -18,7 +18,15 @@ use Rattle.desk.proofs.Accepted.{accepted, accepted-told, accepted-soun
 abbrev telling : Told → Answer
 telling t =
     cond (eqb (t .number) 0)
-    (Adjusted (t .legs) (record { v = t .w }) (record { v = t .north }) (record { v = t .east }) (t .precision) (record { v = t .area }) (t .loop))
+    (Adjusted (record {
+      legs = t .legs;
+      w = record { v = t .w };
+      north = record { v = t .north };
+      east = record { v = t .east };
+      precision = t .precision;
+      area = record { v = t .area };
+      looped = t .loop;
+    }))
     (Refused (t .number) (t .place))
 
 module _ (e : ℕ → ℤ) (tape : List ℕ) (room : ℕ) where
@@ -31,7 +39,7 @@ module _ (e : ℕ → ℤ) (tape : List ℕ) (room : ℕ) where
   refused-some n p h z = omega (arith, some-leg (ap (λ (t : Told). t .number) (sym h) ∙ z), ap (λ (t : Told). t .legs) h)
 
   one-answer : (x : Answer) → told x ≡ traversedBy e tape room → x ≡ telling (traversedBy e tape room)
-  one-answer (Adjusted legs w n c p area loop) h = ap telling h
+  one-answer (Adjusted f) h = ap telling h
   one-answer (Refused n p) h = rw (← h, ne-eqb n 0 (refused-some n p h))
 
 -- `traverse`, and with the entries of a lent table `traverse_in`

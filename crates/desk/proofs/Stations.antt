@@ -122,6 +122,6 @@ module _ (e : ℕ → ℤ) (entries : Entries e) (b : Balanced) (sound : Sound b
   passed-words = placed-words e entries b sound all-near l words room all-placed
 
   pub passed-told : (p : ℕ) (a : Whole) (o : Bool) → p ≡ precision (c .north .v) (c .east .v) (c .run) → o ≡ isLoop b
-      → a .v ≡ cond o (doubled (takenFrom words (b .legs))) (pos 0) → told (Adjusted (b .legs) (b .w) (c .north) (c .east) p a o) ≡ second e b
+      → a .v ≡ cond o (doubled (takenFrom words (b .legs))) (pos 0) → told (Adjusted (record { legs = b .legs; w = b .w; north = c .north; east = c .east; precision = p; area = a; looped = o })) ≡ second e b
   passed-told p a o f h i =
       second-near e entries b sound stations c ran left x t p a o y f (area-of e entries b sound all-near l words room all-placed o a h i) h

@@ -42,8 +42,18 @@ refused n p = record { number = n; place = p; legs = 0; w = pos 0; north = pos 0
 
 abbrev pub told : Answer → Told
 told (Refused n p) = refused n p
-told (Adjusted legs w n e p area loop) =
-    record { number = 0; place = 0; legs = legs; w = w .v; north = n .v; east = e .v; precision = p; area = area .v; loop = loop }
+told (Adjusted f) =
+    record {
+      number = 0;
+      place = 0;
+      legs = f .legs;
+      w = f .w .v;
+      north = f .north .v;
+      east = f .east .v;
+      precision = f .precision;
+      area = f .area .v;
+      loop = f .looped;
+    }
 
 -- ---- the first step: refusals 2 to 7 of the reading, then "Refused (8) exactly when its size exceeds 100 x (n+1)", at the close
 abbrev pub unbalanced : Balanced

@@ -37,21 +37,21 @@ pub struct Sums {
     pub run: u64,
 }
 
-// What a traverse is answered with: a refusal, or n, W, both closures, the precision number, the doubled area and whether it is a loop.
+// The figures of an adjusted traverse: n, W, both closures, the precision number, the doubled area and whether it is a loop.
+pub struct Figures {
+    pub legs: usize,
+    pub w: Whole,
+    pub north: Whole,
+    pub east: Whole,
+    pub precision: u64,
+    pub area: Whole,
+    pub looped: bool,
+}
+
+// What a traverse is answered with.
 pub enum Answer {
-    Refused {
-        number: u32,
-        place: usize,
-    },
-    Adjusted {
-        legs: usize,
-        w: Whole,
-        north: Whole,
-        east: Whole,
-        precision: u64,
-        area: Whole,
-        is_loop: bool,
-    },
+    Refused { number: u32, place: usize },
+    Adjusted(Figures),
 }
 
 mod angles;

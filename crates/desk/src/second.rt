@@ -2,6 +2,7 @@
 // test is passed.
 use crate::Answer;
 use crate::Balanced;
+use crate::Figures;
 use crate::area;
 use crate::legs;
 use crate::places;
@@ -25,20 +26,20 @@ pub fn settle(table: &[u32; 5401], b: Balanced, words: &mut [i64]) -> Answer
     if places::within_limit(c) {
         places::put_all(n, stations, c, words);
         let precision = places::precision_of(c);
-        let is_loop = area::is_loop(b);
-        let area = area::area(is_loop, n, words);
+        let looped = area::is_loop(b);
+        let area = area::area(looped, n, words);
         let w = b.w;
         let north = c.north;
         let east = c.east;
-        return Answer::Adjusted {
+        return Answer::Adjusted(Figures {
             legs: n,
             w,
             north,
             east,
             precision,
             area,
-            is_loop,
-        };
+            looped,
+        });
     }
     Answer::Refused {
         number: 9,

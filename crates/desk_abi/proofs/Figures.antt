@@ -3,7 +3,6 @@ use Prim.Native.Nat.{ℕ, zero, suc, _+_, _^_, _≤_, _<_}
 use native.Mathlib.Omega.{arith}
 use native.Mathlib.Numerals.{add-one}
 use mathlib.Core.Path.{_≡_, refl, sym, _∙_, ap}
-use mathlib.Core.Bool.{Bool}
 use mathlib.Core.List.{List, [], _∷_, _++_}
 use lib.ListN.{length, getD, take, set, length-set}
 use lib.Seq.{take-suc, take-suc-set, take-all}
@@ -13,6 +12,7 @@ use Rattle.answer.specs.Told.{passes}
 use Rattle.sines.proofs.Own.{Entries, rule-entries, lent-entries}
 use Rattle.sines.specs.Sine.{entry, entryIn}
 use Rattle.desk.specs.declared.Answer.{Answer}
+use Rattle.desk.specs.declared.Figures.{Figures}
 use Rattle.desk.specs.declared.Answer.the-variants.{Refused, Adjusted}
 use Rattle.desk.specs.Answer.{Told, told, traversedBy}
 use Rattle.desk.proofs.Accepted.{Sized, accepted, accepted-sized}
@@ -23,21 +23,22 @@ pub refused-figures : (a : Answer) (n p : ℕ) → a ≡ Refused n p → pos 0 �
 unfolding figuresOf
 refused-figures a n p e = rw e
 
-module _ (a : Answer) (legs : ℕ) (w n e : Whole) (p : ℕ) (area : Whole) (loop : Bool) (is : a ≡ Adjusted legs w n e p area loop) where
-  pub legs-fit : told a .legs < 2 ^ 63 → legs < 2 ^ 63
+module _ (a : Answer) (f : Figures) (is : a ≡ Adjusted f) where
+  pub legs-fit : told a .legs < 2 ^ 63 → f .legs < 2 ^ 63
   legs-fit h = rw is at h
 
-  pub precision-fits : told a .precision < 2 ^ 63 → p < 2 ^ 63
+  pub precision-fits : told a .precision < 2 ^ 63 → f .precision < 2 ^ 63
   precision-fits h = rw is at h
 
-  pub adjusted-figures : (x y z : Whole) → x .v ≡ pos legs → y .v ≡ pos p → z .v ≡ passes loop → values (x ∷ w ∷ n ∷ e ∷ y ∷ area ∷ z ∷ []) ≡ figuresOf (told a)
+  pub adjusted-figures : (x y z : Whole) → x .v ≡ pos (f .legs) → y .v ≡ pos (f .precision) → z .v ≡ passes (f .looped)
+      → values (x ∷ f .w ∷ f .north ∷ f .east ∷ y ∷ f .area ∷ z ∷ []) ≡ figuresOf (told a)
   unfolding figuresOf values
-  adjusted-figures x y z f g h = rw (is, f, g, h)
+  adjusted-figures x y z g h i = rw (is, g, h, i)
 
 -- ---- they fit
 sized : (e : ℕ → ℤ) → Entries e → (tape : List ℕ) (room : ℕ) (a : Answer) → told a ≡ traversedBy e tape room → (told a .legs ≤ 64) × (told a .precision ≤ 1300000000)
 sized e entries tape room (Refused n p) h = (omega arith, omega arith)
-sized e entries tape room (Adjusted legs w n c p area loop) h =
+sized e entries tape room (Adjusted f) h =
     let s = accepted-sized e tape room entries (accepted e tape room (ap (λ (t : Told). t .number) (sym h))) in
     (omega (arith, ap (λ (t : Told). t .legs) h, s .legs), omega (arith, ap (λ (t : Told). t .precision) h, s .precision))
 
@@ -79,5 +80,5 @@ module _ (a : Answer) (all : List Whole) (l : List ℤ) (is : values all ≡ fig
   pub tells-refused : (n p : ℕ) → a ≡ Refused n p → TellsTraverse (told a) p l n
   tells-refused n p e = record { number = rw e; place = rw e; figures = stored ∙ is }
 
-  pub tells-adjusted : (legs : ℕ) (w n e : Whole) (p : ℕ) (area : Whole) (loop : Bool) → a ≡ Adjusted legs w n e p area loop → TellsTraverse (told a) 0 l 0
-  tells-adjusted legs w n e p area loop f = record { number = rw f; place = rw f; figures = stored ∙ is }
+  pub tells-adjusted : (f : Figures) → a ≡ Adjusted f → TellsTraverse (told a) 0 l 0
+  tells-adjusted f e = record { number = rw e; place = rw e; figures = stored ∙ is }

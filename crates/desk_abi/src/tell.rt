@@ -123,18 +123,14 @@ fn figures_of(a: Answer) -> [Whole; 7]
     let zero = Whole { v: 0 };
     match a {
         Answer::Refused { .. } => [zero; 7],
-        Answer::Adjusted {
-            legs,
-            w,
-            north,
-            east,
-            precision,
-            area,
-            is_loop,
-        } => {
-            let n = Whole::of_size(legs as u64);
-            let p = Whole::of_size(precision);
-            [n, w, north, east, p, area, flag(is_loop)]
+        Answer::Adjusted(f) => {
+            let n = Whole::of_size(f.legs as u64);
+            let w = f.w;
+            let north = f.north;
+            let east = f.east;
+            let p = Whole::of_size(f.precision);
+            let area = f.area;
+            [n, w, north, east, p, area, flag(f.looped)]
         }
     }
 }
@@ -170,7 +166,7 @@ pub fn answer(a: Answer, place: &mut usize, figures: &mut [i64; 7]) -> u32
             *place = p;
             number
         }
-        Answer::Adjusted { .. } => {
+        Answer::Adjusted(_f) => {
             *place = 0;
             0
         }

@@ -14,7 +14,7 @@ use Rattle.desk.specs.Traverse.{at}
 use Rattle.desk.proofs.Accepted.{Sized, accepted, accepted-legs, accepted-sized, word-small}
 use Rattle.text.specs.Text.{ascii}
 use Rattle.text.proofs.Lengths.{decimal-most, amount-most}
-use Rattle.page.specs.Sheet.{closures, closeLine, stationLine, lineOf, stationLines, areaLine, text, textOf, ownWords, answered, stations}
+use Rattle.page.specs.Sheet.{closures, closeLine, stationLine, lineOf, stationLines, areaLine, textOf, ownWords, answered, stations}
 
 -- ---- lines
 close-most : (w n e : ℤ) (p : ℕ) → natAbs w < 10 ^ 19 → natAbs n < 10 ^ 19 → natAbs e < 10 ^ 19 → p < 10 ^ 19 → length (closeLine w n e p) ≤ 120
@@ -48,7 +48,7 @@ stations-most words (suc k) h small =
     simp length-append (omega (arith, before, station-most k n e (omega arith) (small north k (omega arith)) (small east k (omega arith))))
 
 text-most : (t : Traversed) (words : List ℤ) → Sized t → Small words (t .legs + 1) → length (textOf t words) ≤ 4096
-unfolding text
+unfolding textOf
 text-most t words s small =
     simp length-append
     (omega (

@@ -3,13 +3,12 @@
 use Prim.Native.Nat.{ℕ, _≤_, _<_}
 use native.Mathlib.Omega.{arith}
 use mathlib.Core.Path.{_≡_, sym, _∙_, ap}
-use mathlib.Core.Bool.{Bool}
 use mathlib.Core.List.{List}
 use borrow.Author.Tests.{lt-ltb, le-ltb, ne-eqb}
 use lib.ListN.{length}
 use lib.IntN.{ℤ}
-use Rattle.whole.specs.declared.Whole.{Whole}
 use Rattle.desk.specs.declared.Answer.{Answer}
+use Rattle.desk.specs.declared.Figures.{Figures}
 use Rattle.desk.specs.declared.Answer.the-variants as desk
 use Rattle.sines.proofs.Own.{Entries}
 use Rattle.desk.specs.Answer.{traversedBy, traversedWordsBy}
@@ -20,7 +19,7 @@ use Rattle.text.specs.Room.{Room, Put}
 use Rattle.text.proofs.Putting.{over-next, over-bytes}
 use Rattle.page.specs.declared.Page.{Page}
 use Rattle.page.specs.declared.Page.the-variants.{Refused, Text}
-use Rattle.page.specs.Sheet.{text, shown, shownBytes, ownWords, told, paged, pagedBytes, Showed}
+use Rattle.page.specs.Sheet.{textOf, shown, shownBytes, ownWords, told, paged, pagedBytes, Showed}
 use Rattle.page.specs.Inside.{Shows}
 use Rattle.page.proofs.Fitting.{sheet-fits}
 
@@ -35,17 +34,17 @@ module _ (x : Answer) (words : List ℤ) (out : List ℕ) (h : Shows x words out
     unfolding shownBytes
     refused-bytes = rw (e, ne-eqb n 0 (h .some n p e))
 
-  module _ (legs p : ℕ) (w n e a : Whole) (o : Bool) (f : x ≡ desk.Adjusted legs w n e p a o) where
-    pub legs-few : legs ≤ 64
+  module _ (g : Figures) (f : x ≡ desk.Adjusted g) where
+    pub legs-few : g .legs ≤ 64
     legs-few = rw f at (h .few (rw f))
 
-    fits : length (text legs (w .v) (n .v) (e .v) p (a .v) o words) ≤ length out
+    fits : length (textOf (toldTraverse (desk.Adjusted g)) words) ≤ length out
     fits = rw f at (h .room (rw f))
 
-    pub text-room : Room out 0 (text legs (w .v) (n .v) (e .v) p (a .v) o words)
+    pub text-room : Room out 0 (textOf (toldTraverse (desk.Adjusted g)) words)
     text-room = omega (arith, fits)
 
-    module _ (m : List ℕ) (k : ℕ) (y : Put out 0 (text legs (w .v) (n .v) (e .v) p (a .v) o words) m k) where
+    module _ (m : List ℕ) (k : ℕ) (y : Put out 0 (textOf (toldTraverse (desk.Adjusted g)) words) m k) where
       pub text-page : Text k ≡ shown (toldTraverse x) words
       unfolding shown
       text-page = rw f (ap Text (over-next out _ m k y))

@@ -13,7 +13,7 @@ use Rattle.desk.specs.Answer.{Told as Traversed}
 use Rattle.desk.proofs.Printed.{records, answer, stations, printed-told, printed-words}
 use Rattle.text.specs.Text.{ascii, digits, placesIn, decimal, pointed, sign, amount}
 use Rattle.text.proofs.Digits.{decimal-short}
-use Rattle.page.specs.Sheet.{closures, closeLine, stationLine, lineOf, stationLines, areaLine, text, printedOf, printed}
+use Rattle.page.specs.Sheet.{closures, closeLine, stationLine, lineOf, stationLines, areaLine, textOf, printedOf, printed}
 use Rattle.page.specs.Sheet.{stations as Sheet·stations}
 
 abbrev sheet : List ℕ
@@ -31,7 +31,7 @@ short : (n : ℕ) → n < 10 ^ 10 → decimal n ≡ digits (placesIn 9 n) n
 short n h = decimal-short 9 n h
 
 figures : printedOf answer (stations ++ replicate 120 (pos 0)) ≡ sheet
-unfolding digits placesIn pointed sign amount closures closeLine stationLine lineOf stationLines areaLine text printedOf
+unfolding digits placesIn pointed sign amount closures closeLine stationLine lineOf stationLines areaLine textOf printedOf
 figures =
     rw (
       short 0 (omega arith),

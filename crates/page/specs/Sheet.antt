@@ -39,12 +39,9 @@ stationLines words (suc k) = stationLines words k ++ lineOf words k
 unfoldable pub areaLine : ℤ → Bool → List ℕ
 areaLine area loop = cond loop (ascii "AREA2 " ++ plain 4 area ++ ascii "\n") []
 
--- the sheet of n legs, W, both closures, the precision number, the area and the mark of a loop, and of the stations' words
-unfoldable pub text : ℕ → ℤ → ℤ → ℤ → ℕ → ℤ → Bool → List ℤ → List ℕ
-text legs w n e p area loop words = closeLine w n e p ++ stationLines words (legs + 1) ++ areaLine area loop
-
-abbrev pub textOf : Traversed → List ℤ → List ℕ
-textOf t words = text (t .legs) (t .w) (t .north) (t .east) (t .precision) (t .area) (t .loop) words
+-- the sheet of an adjusted traverse, and of its stations' words
+unfoldable pub textOf : Traversed → List ℤ → List ℕ
+textOf t words = closeLine (t .w) (t .north) (t .east) (t .precision) ++ stationLines words (t .legs + 1) ++ areaLine (t .area) (t .loop)
 
 -- ---- what is shown of a traverse: its refusal, or its text "from the first lent byte", which "changes nothing behind it"
 abbrev pub over : List ℕ → List ℕ → List ℕ

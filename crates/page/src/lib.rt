@@ -23,18 +23,7 @@ fn show(answer: Answer, words: &[i64; 130], out: &mut [u8]) -> Page
 {
     match answer {
         Answer::Refused { number, place } => Page::Refused { number, place },
-        Answer::Adjusted {
-            legs,
-            w,
-            north,
-            east,
-            precision,
-            area,
-            is_loop,
-        } => {
-            let n = lines::put_all(out, legs, w, north, east, precision, area, is_loop, words);
-            Page::Text(n)
-        }
+        Answer::Adjusted(figures) => Page::Text(lines::put_all(out, figures, words)),
     }
 }
 

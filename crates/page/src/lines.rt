@@ -1,4 +1,5 @@
 // The lines of the sheet, each put behind the one before.
+use desk::Figures;
 use whole::Whole;
 ghost use mathlib.Core.Path.{_≡_};
 ghost use mathlib.Core.List.{_++_};
@@ -7,8 +8,9 @@ ghost use lib.ListN.{getD};
 ghost use lib.IntN.{pos};
 ghost use Rattle.text.specs.Text.{ascii, decimal, plain, amount};
 ghost use Rattle.text.specs.Room.{Room, Put};
-ghost use Rattle.page.specs.Sheet.{closures, closeLine, lineOf, stationLines, areaLine};
-ghost use Rattle.page.specs.Sheet.{text as Sheet·text};
+ghost use Rattle.page.specs.Sheet.{closures, closeLine, lineOf, stationLines, areaLine, textOf};
+ghost use Rattle.desk.specs.Answer.{told};
+ghost use Rattle.desk.specs.declared.Answer.the-variants.{Adjusted};
 
 // A name, and an amount behind it.
 fn put_named(
@@ -109,23 +111,13 @@ fn put_area(out: &mut [u8], at: usize, area: Whole, looped: bool) -> usize
     at
 }
 
-// The whole sheet of n legs, from the first lent byte.
-pub fn put_all(
-    out: &mut [u8],
-    legs: usize,
-    w: Whole,
-    north: Whole,
-    east: Whole,
-    precision: u64,
-    area: Whole,
-    looped: bool,
-    words: &[i64; 130],
-) -> usize
-    requires { ⌜ legs ≤ 64 ⌝ }
-    requires { ⌜ Room (now out) 0 (Sheet·text legs (w .v) (north .v) (east .v) precision (area .v) looped (now words)) ⌝ }
-    ensures { λ r. ⌜ Put (now (out .entry)) 0 (Sheet·text legs (w .v) (north .v) (east .v) precision (area .v) looped (now (words .entry))) (now (out .exit)) r ⌝ }
+// The whole sheet, from the first lent byte.
+pub fn put_all(out: &mut [u8], f: Figures, words: &[i64; 130]) -> usize
+    requires { ⌜ f .legs ≤ 64 ⌝ }
+    requires { ⌜ Room (now out) 0 (textOf (told (Adjusted f)) (now words)) ⌝ }
+    ensures { λ r. ⌜ Put (now (out .entry)) 0 (textOf (told (Adjusted f)) (now (words .entry))) (now (out .exit)) r ⌝ }
 {
-    let i = put_first(out, w, north, east, precision);
-    let j = put_stations(out, i, words, legs + 1);
-    put_area(out, j, area, looped)
+    let i = put_first(out, f.w, f.north, f.east, f.precision);
+    let j = put_stations(out, i, words, f.legs + 1);
+    put_area(out, j, f.area, f.looped)
 }

@@ -1,30 +1,30 @@
 -- `put_all` meets its contract: the first line, those of the stations and the last one are put one behind the other.
 use borrow.Author.Needs.{needs}
 use Rattle.text.proofs.Putting.{room-one, room-two, room-three, then}
-use Rattle.page.specs.Sheet.{text}
+use Rattle.page.specs.Sheet.{textOf}
 use Rattle.page.proofs.lines.put_all.Statement.{statement}
 use Rattle.page.proofs.lines.put_all.Tie as tie
 
 put-first-requires : tie.Need-put-first-requires
-unfolding text
+unfolding textOf
 put-first-requires c κs = search room-one
 
 add-put-stations : tie.Need-add-put-stations
 add-put-stations c = search needs
 
 put-stations-requires : tie.Need-put-stations-requires
-unfolding text
+unfolding textOf
 put-stations-requires c κs = (search needs, search room-two)
 
 put-area-requires : tie.Need-put-area-requires
-unfolding text
+unfolding textOf
 put-area-requires c κs = search room-three
 
 same-length : tie.Need-same-length
 same-length c = search needs
 
 returns : tie.Need-returns
-unfolding text
+unfolding textOf
 returns c = search then
 
 pub put-all-spec : {M : Type 1} → statement M
