@@ -10,7 +10,7 @@ use mathlib.Core.Bool.{Bool}
 use mathlib.Core.List.{List, [], _∷_}
 use borrow.Author.Needs.{read-below}
 use borrow.Author.Tests.{le-leb, lt-ltb}
-use lib.ListN.{length, getD, set, length-set}
+use lib.ListN.{length, getD, set, replicate, length-set}
 use lib.Seq.{getD-set-same}
 use lib.IntN.{ℤ, pos, natAbs, negℤ}
 use Rattle.whole.specs.Order.{_≤ᶻ_, _<ᶻ_}
@@ -28,7 +28,7 @@ use Rattle.steps.proofs.Sharing.{share-most}
 use Rattle.steps.proofs.Turning.{turn-is, misclosure-is}
 use Rattle.desk.specs.Angles.{angleAt, carried, misclosureOf, balancedOf, filled, zeros, balancedTraverse}
 use Rattle.desk.specs.Traverse.{azimuthOf}
-use Rattle.desk.specs.Inside.{Turned, Ready, Sound}
+use Rattle.desk.specs.Inside.{Turned, Ready, Sound, carriedAll}
 use Rattle.whole.specs.declared.Whole.{Whole}
 use Rattle.tape.specs.declared.Fields.{Fields}
 use Rattle.desk.proofs.Scaling.{combined-range}
@@ -47,16 +47,6 @@ misclosure-most carried given = let m = misclosure-is carried given in sized (mi
   where
     sized : (w : ℤ) → negℤ (pos halfCircle) <ᶻ w → w ≤ᶻ pos halfCircle → natAbs w ≤ halfCircle
     sized w a b = let v = vars (w ∷ []) in abs-under w (search ints) (omega (arith, lt a (search ints), le b (search ints)))
-
-module _ (f : Fields) (r : Amount) (v : ℤ) (c : ℕ) (g : v ≡ told r .value) (e : told r ≡ misclosureStep c (f .given)) (i : c ≡ carried f (f .legs)) (h : c < circle) (t : Turned f) where
-  pub misclosure-value : v ≡ misclosureOf f
-  unfolding misclosureOf
-  misclosure-value =
-      g ∙ value-given (told r) _ _ e (both _ _ (lt-ltb c circle h) (lt-ltb (f .given) circle (t .given))) ∙ ap (λ (a : ℕ). misclosure a (f .given)) i
-
-  pub misclosure-small : natAbs v ≤ 6480000
-  unfolding misclosureOf
-  misclosure-small = rw misclosure-value (misclosure-most (carried f (f .legs)) (f .given))
 
 pub angles-close : (r : Verdict) (x : Bool) (w : ℤ) (n : ℕ) → toldVerdict r ≡ misclosureTest w n → passes x ≡ toldVerdict r .value → natAbs w ≤ 6480000 → 1 ≤ n → n ≤ 64
     → x ≡ closesAngles w n
@@ -102,6 +92,37 @@ module _ (g : ℕ → ℕ) (l : List ℕ) where
         | no j ↦ let e : k ≡ n = omega arith in rw e (getD-set-same (filled g n l) n (g n) 0 (omega (arith, filled-length n)))
       ]
 
+  pub filled-on : (k r : ℕ) (m : List ℕ) → m ≡ filled g k l → r ≡ g k → set m k r ≡ filled g (k + 1) l
+  unfolding filled
+  filled-on k r m e h = rw (add-one k, e, h)
+
+-- ---- the azimuths carried along the legs
+module _ (f : Fields) where
+  carried-turned : (k : ℕ) → carried f k < circle
+  unfolding carried
+  carried-turned zero = mod-lt _ (omega arith)
+  carried-turned (suc k) = mod-lt _ (omega arith)
+
+  module _ (l : List ℕ) (e : l ≡ carriedAll f) (few : f .legs ≤ 64) (k : ℕ) (h : k ≤ f .legs) where
+    pub carried-at : getD l k 0 ≡ carried f k
+    carried-at = rw e (filled-at (carried f) (replicate 65 0) (f .legs + 1) k (omega arith) (omega arith))
+
+    pub turned-at : getD l k 0 < 12960000
+    turned-at = rw carried-at (carried-turned k)
+
+  -- the misclosure, by the last of them
+  module _ (l : List ℕ) (r : Amount) (v : ℤ) (i : l ≡ carriedAll f) (t : Turned f) (g : v ≡ told r .value) (e : told r ≡ misclosureStep (getD l (f .legs) 0) (f .given)) where
+    pub misclosure-value : v ≡ misclosureOf f
+    unfolding misclosureOf
+    misclosure-value =
+        let c = carried-at l i (t .few) (f .legs) (omega arith) in
+        let h = turned-at l i (t .few) (f .legs) (omega arith) in
+        g ∙ value-given (told r) _ _ e (both _ _ (lt-ltb (getD l (f .legs) 0) circle h) (lt-ltb (f .given) circle (t .given))) ∙ ap (λ (a : ℕ). misclosure a (f .given)) c
+
+    pub misclosure-small : natAbs v ≤ 6480000
+    unfolding misclosureOf
+    misclosure-small = rw misclosure-value (misclosure-most (carried f (f .legs)) (f .given))
+
 -- ---- along the legs
 module _ (f : Fields) where
   pub angle-first : Turned f → angleAt f 0 < circle
@@ -114,13 +135,15 @@ module _ (f : Fields) where
   unfolding carried
   carried-next k a r e g = e ∙ rw (add-one k, g)
 
-  pub carried-last : (k a : ℕ) → k ≤ f .legs → f .legs ≤ k → a ≡ carried f k → a ≡ carried f (f .legs)
-  carried-last k a h i e = let j : k ≡ f .legs = omega arith in subst (λ (n : ℕ). a ≡ carried f n) j e
+  pub carried-last : (k a : ℕ) (l : List ℕ) → k ≤ f .legs → f .legs ≤ k → l ≡ filled (carried f) k (replicate 65 0) → a ≡ carried f k → set l k a ≡ carriedAll f
+  carried-last k a l h i e g =
+      let j : k ≡ f .legs = omega arith in
+      subst (λ (n : ℕ). set l k a ≡ filled (carried f) (n + 1) (replicate 65 0)) j (filled-on (carried f) (replicate 65 0) k a l e g)
 
-  pub filled-next : (k a r : ℕ) (w : ℤ) (l m : List ℕ) → r ≡ balanced a (share w (k + 1) (f .legs + 1)) → l ≡ filled (balancedOf f) k m → a ≡ carried f k → w ≡ misclosureOf f
-      → set l k r ≡ filled (balancedOf f) (k + 1) m
-  unfolding filled balancedOf
-  filled-next k a r w l m i e g h = rw (add-one k, e, i, g, h)
+  pub filled-next : (k r : ℕ) (w : ℤ) (l m c : List ℕ) → r ≡ balanced (getD c k 0) (share w (k + 1) (f .legs + 1)) → l ≡ filled (balancedOf f) k m → c ≡ carriedAll f
+      → Turned f → k < f .legs → w ≡ misclosureOf f → set l k r ≡ filled (balancedOf f) (k + 1) m
+  unfolding balancedOf
+  filled-next k r w l m c i e g t h j = filled-on (balancedOf f) m k r l e (i ∙ rw (carried-at f c g (t .few) k (omega arith), j))
 
   pub filled-last : (k : ℕ) (l : List ℕ) → k ≤ f .legs → f .legs ≤ k → l ≡ filled (balancedOf f) k zeros → l ≡ filled (balancedOf f) (f .legs) zeros
   filled-last k l h i e = let j : k ≡ f .legs = omega arith in subst (λ (n : ℕ). l ≡ filled (balancedOf f) n zeros) j e

@@ -4,7 +4,7 @@ use Prim.Native.Nat.{ℕ, zero, suc, _+_, _*_, _^_, _≤_, _<_}
 use mathlib.Core.Path.{_≡_}
 use mathlib.Core.Bool.{true, _&&_}
 use mathlib.Core.List.{List, [], _∷_, _++_}
-use lib.ListN.{length, getD, set}
+use lib.ListN.{length, getD, set, replicate}
 use lib.IntN.{ℤ, pos, negℤ, natAbs, _+ℤ_, _-ℤ_}
 use lib.Signed.{leZ}
 use Rattle.sines.specs.Quadrant.{circle}
@@ -12,7 +12,7 @@ use Rattle.steps.specs.Area.{small as Area·small}
 use Rattle.steps.specs.Course.{Axis, north, east, course}
 use Rattle.steps.specs.Distance.{grid}
 use Rattle.steps.specs.Share.{share}
-use Rattle.desk.specs.Angles.{angleAt}
+use Rattle.desk.specs.Angles.{angleAt, carried, filled}
 use Rattle.desk.specs.Line.{run, preliminary}
 use Rattle.desk.specs.Traverse.{along, longOf, azimuthOf, line}
 use Rattle.tape.specs.declared.Fields.{Fields}
@@ -27,6 +27,10 @@ pub record Turned (f : Fields) : Type 0 where
   pub mark : f .mark < circle
   pub given : f .given < circle
   pub angles : (k : ℕ) → k ≤ f .legs → angleAt f k < circle
+
+-- the azimuths carried to the legs and to the closing mark, as a list of 65
+abbrev pub carriedAll : Fields → List ℕ
+carriedAll f = filled (carried f) (f .legs + 1) (replicate 65 0)
 
 -- fields in the ranges of the tape
 pub record Ready (f : Fields) : Type 0 where

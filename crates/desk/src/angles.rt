@@ -8,8 +8,8 @@ ghost use Prim.Native.Nat.{_+_, _≤_, _<_};
 ghost use lib.IntN.{natAbs};
 ghost use Rattle.steps.specs.Azimuth.{fromMark, onward, closesAngles, balanced};
 ghost use Rattle.steps.specs.Share.{share};
-ghost use Rattle.desk.specs.Angles.{carried, misclosureOf, balancedOf, filled, zeros, balancedTraverse};
-ghost use Rattle.desk.specs.Inside.{Turned, Ready};
+ghost use Rattle.desk.specs.Angles.{misclosureOf, balancedOf, filled, zeros, balancedTraverse};
+ghost use Rattle.desk.specs.Inside.{Turned, Ready, carriedAll};
 
 // The azimuth of leg 1, and of each next leg.
 fn first(mark: u32, angle: u32) -> u32
@@ -28,28 +28,32 @@ fn next(before: u32, angle: u32) -> u32
     steps::azimuth::onward(before, angle).value() as u32
 }
 
-// The azimuth carried to the closing mark.
-fn carry(f: Fields) -> u32
+// The azimuth carried to each leg, and behind them the one carried to the closing mark.
+pub fn carry(f: Fields) -> [u32; 65]
     requires { ⌜ Turned f ⌝ }
-    ensures is { λ r. ⌜ r ≡ carried f (f .legs) ⌝ }
-    ensures turned { λ r. ⌜ r < 12960000 ⌝ }
+    ensures { λ r. ⌜ r ≡ carriedAll f ⌝ }
 {
+    let mut azimuths = [0u32; 65];
     let mut azimuth = first(f.mark, f.angles[0]);
     let mut k: usize = 0;
     while k < f.legs {
+        azimuths[k] = azimuth;
         k = k + 1;
         azimuth = next(azimuth, f.angles[k]);
     }
-    azimuth
+    azimuths[k] = azimuth;
+    azimuths
 }
 
 // The misclosure W.
-pub fn misclosure_of(f: Fields) -> Whole
+pub fn misclosure_of(f: Fields, azimuths: [u32; 65]) -> Whole
     requires { ⌜ Turned f ⌝ }
+    requires { ⌜ azimuths ≡ carriedAll f ⌝ }
     ensures is { λ r. ⌜ r .v ≡ misclosureOf f ⌝ }
     ensures size { λ r. ⌜ natAbs (r .v) ≤ 6480000 ⌝ }
 {
-    steps::azimuth::misclosure(carry(f), f.given).value()
+    let n = f.legs;
+    steps::azimuth::misclosure(azimuths[n], f.given).value()
 }
 
 // Whether the misclosure is within its limit.
@@ -73,31 +77,31 @@ fn balanced_leg(azimuth: u32, w: Whole, k: usize, legs: usize) -> u32
 }
 
 // The balanced azimuths of all legs.
-pub fn balance(f: Fields, w: Whole) -> [u32; 64]
+pub fn balance(f: Fields, azimuths: [u32; 65], w: Whole) -> [u32; 64]
     requires { ⌜ Turned f ⌝ }
+    requires { ⌜ azimuths ≡ carriedAll f ⌝ }
     requires { ⌜ w .v ≡ misclosureOf f ⌝ }
     requires { ⌜ natAbs (w .v) ≤ 6480000 ⌝ }
     ensures { λ r. ⌜ r ≡ filled (balancedOf f) (f .legs) zeros ⌝ }
 {
-    let mut azimuths = [0u32; 64];
-    let mut azimuth = first(f.mark, f.angles[0]);
+    let mut balanced = [0u32; 64];
     let mut k: usize = 0;
     while k < f.legs {
-        azimuths[k] = balanced_leg(azimuth, w, k, f.legs);
+        balanced[k] = balanced_leg(azimuths[k], w, k, f.legs);
         k = k + 1;
-        azimuth = next(azimuth, f.angles[k]);
     }
-    azimuths
+    balanced
 }
 
 // The traverse with its angles balanced.
-pub fn balanced_traverse(f: Fields, w: Whole) -> Balanced
+pub fn balanced_traverse(f: Fields, azimuths: [u32; 65], w: Whole) -> Balanced
     requires { ⌜ Ready f ⌝ }
+    requires { ⌜ azimuths ≡ carriedAll f ⌝ }
     requires { ⌜ w .v ≡ misclosureOf f ⌝ }
     requires { ⌜ natAbs (w .v) ≤ 6480000 ⌝ }
     ensures { λ r. ⌜ r ≡ balancedTraverse f ⌝ }
 {
-    let azimuths = balance(f, w);
+    let balanced = balance(f, azimuths, w);
     let factor = factor::combined(f.elevation, f.scale);
     let distances = f.distances;
     let from = f.from;
@@ -105,7 +109,7 @@ pub fn balanced_traverse(f: Fields, w: Whole) -> Balanced
     Balanced {
         legs: f.legs,
         w,
-        azimuths,
+        azimuths: balanced,
         distances,
         factor,
         from,

@@ -41,11 +41,12 @@ fn check_angles(f: Fields) -> First
     requires { ⌜ Ready f ⌝ }
     ensures { λ r. ⌜ r ≡ checkedAngles f ⌝ }
 {
-    let w = angles::misclosure_of(f);
+    let azimuths = angles::carry(f);
+    let w = angles::misclosure_of(f, azimuths);
     if angles::angles_close(w, f.legs) {
         return First {
             checked: Checked::Good,
-            balanced: angles::balanced_traverse(f, w),
+            balanced: angles::balanced_traverse(f, azimuths, w),
         };
     }
     refuse(8, f.place)

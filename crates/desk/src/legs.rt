@@ -61,7 +61,15 @@ pub fn run_all(table: &[u32; 5401], b: Balanced) -> [Sums; 65]
         east: Whole::of_size(b.from.east as u64),
         run: 0,
     };
-    let mut stations = [s; 65];
+    // zeros, which cost less to lay out than 65 copies of the start
+    let zero = Whole { v: 0 };
+    let none = Sums {
+        north: zero,
+        east: zero,
+        run: 0,
+    };
+    let mut stations = [none; 65];
+    stations[0] = s;
     let mut k: usize = 0;
     while k < b.legs {
         s = advance(table, s, b.factor, b.distances[k], b.azimuths[k]);

@@ -4,8 +4,11 @@ use Rattle.desk.proofs.Balancing.{misclosure-value, misclosure-small}
 use Rattle.desk.proofs.angles.misclosure_of.Statement.{statement}
 use Rattle.desk.proofs.angles.misclosure_of.Tie as tie
 
-carry-requires : tie.Need-carry-requires
-carry-requires c κs = search needs
+mul-misclosure : tie.Need-mul-misclosure
+mul-misclosure c = search needs
+
+array-read-misclosure : tie.Need-array-read-misclosure
+array-read-misclosure c = search needs
 
 misclosure-requires : tie.Need-misclosure-requires
 misclosure-requires c κs = search needs
@@ -17,4 +20,6 @@ returns : tie.Need-returns
 returns c = (search misclosure-value, search misclosure-small)
 
 pub misclosure-of-spec : {M : Type 1} → statement M
-misclosure-of-spec = tie.close (tie.spec carry-requires misclosure-requires value-requires returns)
+misclosure-of-spec =
+    tie.close
+    (tie.spec mul-misclosure array-read-misclosure misclosure-requires value-requires returns)

@@ -4,6 +4,9 @@ use Rattle.desk.proofs.Stepping.{checked-good, checked-bad}
 use Rattle.desk.proofs.checking.check_angles.Statement.{statement}
 use Rattle.desk.proofs.checking.check_angles.Tie as tie
 
+carry-requires : tie.Need-carry-requires
+carry-requires c κs = search needs
+
 misclosure-of-requires : tie.Need-misclosure-of-requires
 misclosure-of-requires c κs = search needs
 
@@ -26,6 +29,7 @@ pub check-angles-spec : {M : Type 1} → statement M
 check-angles-spec =
     tie.close
     (tie.spec
+    carry-requires
     misclosure-of-requires
     angles-close-requires
     balanced-traverse-requires

@@ -28,6 +28,9 @@ cast-of-size-2 c = search needs
 of-size-requires-2 : tie.Need-of-size-requires-2 Inv-loop μ-loop
 of-size-requires-2 c κs = search needs
 
+array-set-from-stations : tie.Need-array-set-from-stations Inv-loop μ-loop
+array-set-from-stations c = search needs
+
 loop-holds : tie.Need-loop-holds Inv-loop μ-loop
 loop-holds c = (search needs, search stands-first, ran-first _ _ _ refl (search stands-first))
 
@@ -52,8 +55,8 @@ add-k c = search needs
 mul-stations : tie.Need-mul-stations Inv-loop μ-loop
 mul-stations c = search needs
 
-array-set-from-stations : tie.Need-array-set-from-stations Inv-loop μ-loop
-array-set-from-stations c = search needs
+array-set-from-stations-2 : tie.Need-array-set-from-stations-2 Inv-loop μ-loop
+array-set-from-stations-2 c = search needs
 
 loop-less : tie.Need-loop-less Inv-loop μ-loop
 loop-less c = search needs
@@ -74,6 +77,7 @@ run-all-spec =
     of-size-requires
     cast-of-size-2
     of-size-requires-2
+    array-set-from-stations
     loop-holds
     mul-advance
     element-copy-out-advance
@@ -82,7 +86,7 @@ run-all-spec =
     advance-requires
     add-k
     mul-stations
-    array-set-from-stations
+    array-set-from-stations-2
     loop-less
     loop-again
     returns)
