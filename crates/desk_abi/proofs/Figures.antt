@@ -3,7 +3,7 @@ use Prim.Native.Nat.{ℕ, zero, suc, _+_, _^_, _≤_, _<_}
 use native.Mathlib.Omega.{arith}
 use native.Mathlib.Numerals.{add-one}
 use mathlib.Core.Path.{_≡_, refl, sym, _∙_, ap}
-use mathlib.Core.List.{List, [], _∷_, _++_}
+use mathlib.Core.List.{List, [], _∷_}
 use lib.ListN.{length, getD, take, set, length-set}
 use lib.Seq.{take-suc, take-suc-set, take-all}
 use lib.IntN.{ℤ, pos}
@@ -15,7 +15,7 @@ use Rattle.desk.specs.declared.Answer.{Answer}
 use Rattle.desk.specs.declared.Figures.{Figures}
 use Rattle.desk.specs.declared.Answer.the-variants.{Refused, Adjusted}
 use Rattle.desk.specs.Answer.{Told, told, traversedBy}
-use Rattle.desk.proofs.Accepted.{Sized, accepted, accepted-sized}
+use Rattle.desk.proofs.Accepted.{accepted, accepted-sized}
 use Rattle.desk_abi.specs.Face.{TellsTraverse, figuresOf, values}
 
 -- ---- of a refusal, and of an adjusted traverse
