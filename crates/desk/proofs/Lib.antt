@@ -3,6 +3,7 @@ pub mod Alone
 pub mod Balancing
 pub mod Compass
 pub mod Looping
+pub mod Pairs
 pub mod Printed
 pub mod Running
 pub mod Scaling

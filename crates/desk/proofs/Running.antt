@@ -5,10 +5,10 @@ use native.Mathlib.Omega.{arith}
 use native.Mathlib.Numerals.{add-one}
 use native.Mathlib.Decide.{ℕ-discrete}
 use native.Mathlib.Nat.{mod-lt}
-use mathlib.Core.Path.{_≡_, _∙_, ap, subst}
+use mathlib.Core.Path.{_≡_, refl, _∙_, ap, subst}
 use mathlib.Core.List.{List, [], _∷_}
 use borrow.Author.Tests.{le-leb, lt-ltb}
-use lib.ListN.{length, getD, set, length-set}
+use lib.ListN.{length, getD, set}
 use lib.Seq.{getD-set-same, getD-set-other}
 use lib.IntN.{ℤ, pos, natAbs, negℤ, _+ℤ_, _-ℤ_, _*ℤ_}
 use Rattle.whole.proofs.Laws.{abs-neg, abs-mul, near-most, triangle}
@@ -25,10 +25,11 @@ use Rattle.steps.specs.Course.{Axis, north, east, sineAlong, move, course, cour
 use Rattle.steps.specs.Distance.{grid, gridStep}
 use Rattle.steps.proofs.Laws.{product-most}
 use Rattle.desk.specs.Line.{run, preliminary}
-use Rattle.desk.specs.Traverse.{along, longOf, azimuthOf, line}
-use Rattle.desk.specs.Inside.{LegSound, Sound, Small, Advanced, Stands, none, stationOf, Ran}
+use Rattle.desk.specs.Traverse.{along, longOf, azimuthOf, line, at}
+use Rattle.desk.specs.Inside.{LegSound, Sound, Small, Advanced, Stands, wordAt, Ran}
 use Rattle.desk.specs.declared.Balanced.{Balanced}
 use Rattle.desk.specs.declared.Sums.{Sums}
+use Rattle.desk.proofs.Pairs.{apart, own, before, behind}
 
 -- ---- the grid distance of a leg
 module _ (distance factor : ℕ) (near : distance ≤ 20000000) (most : factor ≤ 10020010) where
@@ -91,7 +92,7 @@ module _ (e : ℕ → ℤ) (entries : Entries e) (b : Balanced) (sound : Sound b
       let q : p +ℤ m -ℤ f ≡ p -ℤ f +ℤ m = ring (p ∷ m ∷ f ∷ []) (λ v. search exps) tt in
       rw q (omega (arith, triangle (p -ℤ f) m, drift axis k (omega arith), course-most e entries axis (longOf b k) (azimuthOf b k) (omega (arith, near)) (leg .turned)))
 
-  place-small : (axis : Axis) (k : ℕ) (z : ℤ) → z ≡ preliminary (line e axis b) k → k ≤ b .legs → natAbs z < 2 ^ 40
+  pub place-small : (axis : Axis) (k : ℕ) (z : ℤ) → z ≡ preliminary (line e axis b) k → k ≤ b .legs → natAbs z < 2 ^ 40
   place-small axis k z g h =
       rw g (omega (arith, near-most (preliminary (line e axis b) k) (along axis (b .from)) (2010000 * k) (drift axis k h), sound .from axis, sound .few))
 
@@ -114,21 +115,48 @@ module _ (e : ℕ → ℤ) (b : Balanced) where
   stands-next k s r h n =
       rw (add-one k) (record { north = rw (← h .north) (n .north); east = rw (← h .east) (n .east); run = rw (← h .run) (n .run) })
 
-  -- every station up to the one reached
-  pub ran-first : (l : List Sums) → length l ≡ 65 → Stands e b 0 (stationOf l 0) → Ran e b 0 l
-  ran-first l r w = record { room = r; at = λ k h. let z : k ≡ 0 = omega arith in rw z w }
+  -- ---- what is kept of every station up to the one reached
+  module _ (k : ℕ) (x y : ℤ) (r : ℕ) (l m : List ℤ) (p q : List ℕ) (room : 2 * k + 1 < length l) (room-run : k < length p) (f : m ≡ set (set l (2 * k) x) (2 * k + 1) y)
+      (g : q ≡ set p k r) (is-north : x ≡ preliminary (line e north b) k) (is-east : y ≡ preliminary (line e east b) k) (is-run : r ≡ run (longOf b) k) where
+    own-spot : (axis : Axis) → wordAt m (at axis k) ≡ preliminary (line e axis b) k
+    own-spot north = rw f (own l k x y north room ∙ is-north)
+    own-spot east = rw f (own l k x y east room ∙ is-east)
 
-  pub ran-next : (k : ℕ) (s : Sums) (l : List Sums) → Sound b → Ran e b k l → Stands e b (k + 1) s → k < b .legs → Ran e b (k + 1) (set l (k + 1) s)
-  ran-next k s l sound h w low =
-      record {
-        room = rw (length-set l (k + 1) s) (h .room);
-        at =
-            λ j i.
-            elim (ℕ-discrete j (k + 1)) [
-              | yes i′ ↦ rw (i′, getD-set-same l (k + 1) s none (omega (arith, h .room, sound .few))) w
-              | no i′ ↦ rw (getD-set-other l (k + 1) j s none i′) (h .at j (omega arith))
-            ];
-      }
+    -- with those of the stations before it
+    kept : ((axis : Axis) (j : ℕ) → j < k → wordAt l (at axis j) ≡ preliminary (line e axis b) j) → ((j : ℕ) → j < k → getD p j 0 ≡ run (longOf b) j)
+        → Ran e b k m q
+    kept spot long =
+        record {
+          spot =
+              λ axis j h.
+              elim (ℕ-discrete j k) [
+                | yes i ↦ rw i (own-spot axis)
+                | no i ↦ rw f (apart l k x y (at axis j) (before k j i axis) (behind k j i axis) ∙ spot axis j (omega arith))
+              ];
+          run =
+              λ j h.
+              elim (ℕ-discrete j k) [
+                | yes i ↦ rw (i, g) (getD-set-same p k r 0 room-run ∙ is-run)
+                | no i ↦ rw (g, getD-set-other p k j r 0 i) (long j (omega arith))
+              ];
+        }
 
-  pub ran-last : (k : ℕ) (l : List Sums) → k ≤ b .legs → b .legs ≤ k → Ran e b k l → Ran e b (b .legs) l
-  ran-last k l h i w = let j : k ≡ b .legs = omega arith in subst (λ (n : ℕ). Ran e b n l) j w
+  pub ran-first : (x y : ℤ) (l m : List ℤ) (p q : List ℕ) → 130 ≤ length l → 65 ≤ length p → m ≡ set (set l (2 * 0) x) (2 * 0 + 1) y → q ≡ set p 0 0
+      → x ≡ pos (b .from .north) → y ≡ pos (b .from .east) → Ran e b 0 m q
+  unfolding run preliminary
+  ran-first x y l m p q room room-run f g is-north is-east =
+      kept 0 x y 0 l m p q (omega arith) (omega arith) f g is-north is-east refl (λ axis j h. absurd (omega arith)) (λ j h. absurd (omega arith))
+
+  pub ran-next : (k : ℕ) (s t : Sums) (first l m : List ℤ) (start p q : List ℕ) → m ≡ set (set l (2 * (k + 1)) (t .north .v)) (2 * (k + 1) + 1) (t .east .v)
+      → q ≡ set p (k + 1) (t .run) → Ran e b k l p → Stands e b k s → Advanced e s (b .factor) (getD (b .distances) k 0) (getD (b .azimuths) k 0) t
+      → length l ≡ length first → length p ≡ length start → 130 ≤ length first → 65 ≤ length start → Sound b → k < b .legs → Ran e b (k + 1) m q
+  ran-next k s t first l m start p q f g h v a same same-run room room-run sound low =
+      let w = stands-next k s t v a in
+      kept (k + 1) (t .north .v) (t .east .v) (t .run) l m p q (omega (arith, sound .few)) (omega (arith, sound .few)) f g (w .north) (w .east) (w .run)
+      (λ axis j i. h .spot axis j (omega arith)) (λ j i. h .run j (omega arith))
+
+  pub ran-last : (k : ℕ) (l : List ℤ) (p : List ℕ) → k ≤ b .legs → b .legs ≤ k → Ran e b k l p → Ran e b (b .legs) l p
+  ran-last k l p h i w = let j : k ≡ b .legs = omega arith in subst (λ (n : ℕ). Ran e b n l p) j w
+
+  pub stands-last : (k : ℕ) (s : Sums) → k ≤ b .legs → b .legs ≤ k → Stands e b k s → Stands e b (b .legs) s
+  stands-last k s h i w = let j : k ≡ b .legs = omega arith in subst (λ (n : ℕ). Stands e b n s) j w

@@ -7,7 +7,7 @@ use mathlib.Core.Bool.{Bool, true, false}
 use mathlib.Core.List.{List, [], _∷_}
 use native.Mathlib.Decide.{decLe}
 use borrow.Author.Tests.{le-leb, leb-true}
-use lib.ListN.{length, set, length-set}
+use lib.ListN.{length, getD, set, length-set}
 use lib.IntN.{ℤ, pos, natAbs, _+ℤ_, _-ℤ_}
 use Rattle.whole.proofs.Diff.{abs-under, ints}
 use Rattle.whole.proofs.Laws.{triangle}
@@ -25,7 +25,7 @@ use Rattle.steps.specs.Share.{share, shareStep}
 use Rattle.desk.specs.Line.{run, preliminary, closure, adjusted}
 use Rattle.desk.specs.Traverse.{along, longOf, line, placed, isLoop, areaOf}
 use Rattle.desk.specs.Answer.{told, refused, northClosure, eastClosure, distanceRun, closesOn, second, secondWords}
-use Rattle.desk.specs.Inside.{Sound, Small, stationOf, Ran, Left, Near, Shared, putTo}
+use Rattle.desk.specs.Inside.{Sound, Small, Stands, wordAt, Ran, Left, Near, Shared, putTo}
 use Rattle.whole.specs.declared.Whole.{Whole}
 use Rattle.desk.specs.declared.Answer.{Answer}
 use Rattle.desk.specs.declared.Answer.the-variants.{Adjusted}
@@ -35,7 +35,7 @@ use Rattle.desk.specs.declared.Sums.{Sums}
 use Rattle.steps.proofs.Sharing.{share-most}
 use Rattle.steps.proofs.Laws.{product-most, square-most}
 use Rattle.desk.proofs.Compass.{run-up}
-use Rattle.desk.proofs.Running.{drift, run-most, stands-small}
+use Rattle.desk.proofs.Running.{drift, run-most, place-small, stands-small}
 use Rattle.sines.specs.Sine.{Table, entry, entryIn}
 use Rattle.sines.proofs.Own.{Entries, own-entries}
 
@@ -112,30 +112,39 @@ pub left-is : (to : Point) (end c : Sums) (q r : ℤ) → q ≡ pos (to .north) 
 left-is to end c q r f g n e t = record { north = n ∙ rw f; east = e ∙ rw g; run = t }
 
 -- ---- the words, a station at a time
-module _ (n : ℕ) (stations : List Sums) (c : Sums) where
-  pub station-small : (k : ℕ) → Shared n stations c → k ≤ n → Small (stationOf stations k)
-  station-small k s h = s .small k h
+module _ (n : ℕ) (spots : List ℤ) (runs : List ℕ) (c : Sums) where
+  module _ (k : ℕ) (s : Shared n spots runs c) (h : k ≤ n) where
+    pub spot-room : 2 * k + 1 < length spots
+    spot-room = omega (arith, s .few, s .room)
 
-  pub station-part : (k : ℕ) → Shared n stations c → k ≤ n → stationOf stations k .run ≤ c .run
-  station-part k s h = s .part k h
+    pub run-room : k < length runs
+    run-room = omega (arith, s .few, s .room-run)
 
-  put-length : (k : ℕ) (l : List ℤ) → length (putTo stations c k l) ≡ length l
+    pub north-fits : (z : ℤ) → z ≡ wordAt spots (2 * k) → natAbs z < 2 ^ 40
+    north-fits z e = rw e (s .north k h)
+
+    pub east-fits : (z : ℤ) → z ≡ wordAt spots (2 * k + 1) → natAbs z < 2 ^ 40
+    east-fits z e = rw e (s .east k h)
+
+    pub part-fits : getD runs k 0 ≤ c .run
+    part-fits = s .part k h
+
+  put-length : (k : ℕ) (l : List ℤ) → length (putTo spots runs c k l) ≡ length l
   unfolding putTo
   put-length zero l = refl
   put-length (suc k) l = simp length-set (put-length k l)
 
-  pub station-room : (k : ℕ) (l m : List ℤ) → Shared n stations c → m ≡ putTo stations c k l → k ≤ n → 130 ≤ length l → 2 * k + 1 < length m
+  pub station-room : (k : ℕ) (l m : List ℤ) → Shared n spots runs c → m ≡ putTo spots runs c k l → k ≤ n → 130 ≤ length l → 2 * k + 1 < length m
   station-room k l m s g h i = rw g (omega (arith, put-length k l, s .few))
 
-  pub put-next : (k : ℕ) (l m r : List ℤ) → m ≡ putTo stations c k l
-      → (let s = stationOf stations k in
-      r ≡ set (set m (2 * k) (s .north .v -ℤ share (c .north .v) (s .run) (c .run))) (2 * k + 1) (s .east .v -ℤ share (c .east .v) (s .run) (c .run)))
-      → r ≡ putTo stations c (k + 1) l
+  pub put-next : (k : ℕ) (l m r : List ℤ) (x y : ℤ) → m ≡ putTo spots runs c k l → x ≡ wordAt spots (2 * k) → y ≡ wordAt spots (2 * k + 1)
+      → r ≡ set (set m (2 * k) (x -ℤ share (c .north .v) (getD runs k 0) (c .run))) (2 * k + 1) (y -ℤ share (c .east .v) (getD runs k 0) (c .run))
+      → r ≡ putTo spots runs c (k + 1) l
   unfolding putTo
-  put-next k l m r g f = f ∙ rw (g, add-one k)
+  put-next k l m r x y g h i f = f ∙ rw (g, h, i, add-one k)
 
-  pub put-last : (k : ℕ) (l m : List ℤ) → k ≤ n + 1 → n < k → m ≡ putTo stations c k l → m ≡ putTo stations c (n + 1) l
-  put-last k l m h i g = let j : k ≡ n + 1 = omega arith in subst (λ (q : ℕ). m ≡ putTo stations c q l) j g
+  pub put-last : (k : ℕ) (l m : List ℤ) → k ≤ n + 1 → n < k → m ≡ putTo spots runs c k l → m ≡ putTo spots runs c (n + 1) l
+  put-last k l m h i g = let j : k ≡ n + 1 = omega arith in subst (λ (q : ℕ). m ≡ putTo spots runs c q l) j g
 
 -- ---- the end of the run
 module _ (e : ℕ → ℤ) (entries : Entries e) (b : Balanced) (sound : Sound b) where
@@ -149,18 +158,18 @@ module _ (e : ℕ → ℤ) (entries : Entries e) (b : Balanced) (sound : Sound b
       let apart : natAbs (pos f -ℤ pos t) ≤ 1000000000 = abs-under (pos f -ℤ pos t) (search ints) (omega (arith, sound .from axis), omega (arith, sound .to axis)) in
       rw q (omega (arith, triangle (p -ℤ pos f) (pos f -ℤ pos t), drift e entries b sound axis (b .legs) (omega arith), apart, sound .few))
 
-  pub end-small : (stations : List Sums) → Ran e b (b .legs) stations → Small (stationOf stations (b .legs))
-  end-small stations ran = stands-small e entries b sound (b .legs) (stationOf stations (b .legs)) (omega arith) (ran .at (b .legs) (omega arith))
+  pub end-small : (end : Sums) → Stands e b (b .legs) end → Small end
+  end-small end stands = stands-small e entries b sound (b .legs) end (omega arith) stands
 
-  module _ (stations : List Sums) (c : Sums) (ran : Ran e b (b .legs) stations) (left : Left (b .to) (stationOf stations (b .legs)) c) where
+  module _ (end c : Sums) (stands : Stands e b (b .legs) end) (left : Left (b .to) end c) where
     north-is : c .north .v ≡ northClosure e b
-    north-is = rw (left .north, ran .at (b .legs) (omega arith) .north)
+    north-is = rw (left .north, stands .north)
 
     east-is : c .east .v ≡ eastClosure e b
-    east-is = rw (left .east, ran .at (b .legs) (omega arith) .east)
+    east-is = rw (left .east, stands .east)
 
     run-is : c .run ≡ distanceRun b
-    run-is = left .run ∙ ran .at (b .legs) (omega arith) .run
+    run-is = left .run ∙ stands .run
 
     -- what is left is within the ranges of the test
     pub north-small : natAbs (c .north .v) ≤ 1200000000
@@ -175,31 +184,34 @@ module _ (e : ℕ → ℤ) (entries : Entries e) (b : Balanced) (sound : Sound b
     pub run-most-left : c .run ≤ 1300000000
     run-most-left = rw run-is (run-small b sound)
 
-    -- every station's part of the distance run is a part of the whole
-    pub shared : Shared (b .legs) stations c
-    shared =
-        record {
-          few = sound .few;
-          room = ran .room;
-          small = λ k h. stands-small e entries b sound k (stationOf stations k) h (ran .at k h);
-          part = λ k h. rw (ran .at k h .run, run-is) (run-up (longOf b) k (b .legs) h);
-        }
+    module _ (spots : List ℤ) (runs : List ℕ) (ran : Ran e b (b .legs) spots runs) where
+      -- every station's part of the distance run is a part of the whole
+      pub shared : 130 ≤ length spots → 65 ≤ length runs → Shared (b .legs) spots runs c
+      shared room room-run =
+          record {
+            few = sound .few;
+            room = room;
+            room-run = room-run;
+            north = λ k h. place-small e entries b sound north k (wordAt spots (2 * k)) (ran .spot north k h) h;
+            east = λ k h. place-small e entries b sound east k (wordAt spots (2 * k + 1)) (ran .spot east k h) h;
+            part = λ k h. rw (ran .run k h, run-is) (run-up (longOf b) k (b .legs) h);
+          }
 
-    -- and what is put is the adjusted stations
-    adjusted-is : (axis : Axis) (k : ℕ) (p q : ℤ) (x : ℕ) → p ≡ preliminary (line e axis b) k → q ≡ closure (line e axis b) → x ≡ run (longOf b) k
-        → p -ℤ share q x (c .run) ≡ adjusted (line e axis b) k
-    unfolding adjusted
-    adjusted-is axis k p q x f g h = rw (f, g, h, run-is)
+      -- and what is put is the adjusted stations
+      adjusted-is : (axis : Axis) (k : ℕ) (p q : ℤ) (x : ℕ) → p ≡ preliminary (line e axis b) k → q ≡ closure (line e axis b) → x ≡ run (longOf b) k
+          → p -ℤ share q x (c .run) ≡ adjusted (line e axis b) k
+      unfolding adjusted
+      adjusted-is axis k p q x f g h = rw (f, g, h, run-is)
 
-    put-is : (k : ℕ) (l : List ℤ) → k ≤ b .legs + 1 → putTo stations c k l ≡ placed e b k l
-    unfolding putTo placed
-    put-is zero l h = refl
-    put-is (suc k) l h =
-        let s = ran .at k (omega arith) in
-        rw (put-is k l (omega arith), adjusted-is north k _ _ _ (s .north) north-is (s .run), adjusted-is east k _ _ _ (s .east) east-is (s .run))
+      put-is : (k : ℕ) (l : List ℤ) → k ≤ b .legs + 1 → putTo spots runs c k l ≡ placed e b k l
+      unfolding putTo placed
+      put-is zero l h = refl
+      put-is (suc k) l h =
+          let x = ran .run k (omega arith) in
+          rw (put-is k l (omega arith), adjusted-is north k _ _ _ (ran .spot north k (omega arith)) north-is x, adjusted-is east k _ _ _ (ran .spot east k (omega arith)) east-is x)
 
-    pub put-all-is : (l m : List ℤ) → m ≡ putTo stations c (b .legs + 1) l → m ≡ placed e b (b .legs + 1) l
-    put-all-is l m g = g ∙ put-is (b .legs + 1) l (omega arith)
+      pub put-all-is : (l m : List ℤ) → m ≡ putTo spots runs c (b .legs + 1) l → m ≡ placed e b (b .legs + 1) l
+      put-all-is l m g = g ∙ put-is (b .legs + 1) l (omega arith)
 
     -- ---- the answer, by the test
     module _ (x : Bool) (t : x ≡ closes (c .north .v) (c .east .v) (c .run)) where
@@ -229,9 +241,9 @@ module _ (e : ℕ → ℤ) (entries : Entries e) (b : Balanced) (sound : Sound b
       unfolding second
       second-near p a o y f g h = rw (← test-is, y, ← north-is, ← east-is, ← run-is, ← f, ← g, ← h)
 
-      pub words-near : (l m : List ℤ) → x ≡ true → m ≡ putTo stations c (b .legs + 1) l → m ≡ secondWords e b l
+      pub words-near : (spots : List ℤ) (runs : List ℕ) (l m : List ℤ) → Ran e b (b .legs) spots runs → x ≡ true → m ≡ putTo spots runs c (b .legs + 1) l → m ≡ secondWords e b l
       unfolding secondWords
-      words-near l m y f = rw (← test-is, y) (put-all-is l m f)
+      words-near spots runs l m ran y f = rw (← test-is, y) (put-all-is spots runs ran l m f)
 
 -- ---- by the desk's own table
 module _ (t : List ℕ) (right : Table t) (b : Balanced) where

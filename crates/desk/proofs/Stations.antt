@@ -22,7 +22,7 @@ use Rattle.steps.proofs.Sharing.{share-most}
 use Rattle.desk.specs.Line.{run, runAll, preliminary, closure, shareAt, adjusted}
 use Rattle.desk.specs.Traverse.{along, longOf, line, at, placed, offset, offsetsTo, isLoop, areaOf}
 use Rattle.desk.specs.Answer.{told, second}
-use Rattle.desk.specs.Inside.{Sound, stationOf, Ran, Left, putTo, takenFrom, Placed}
+use Rattle.desk.specs.Inside.{Sound, Stands, Ran, Left, putTo, takenFrom, Placed}
 use Rattle.desk.specs.declared.Answer.the-variants.{Adjusted}
 use Rattle.desk.specs.declared.Sums.{Sums}
 use Rattle.desk.specs.declared.Balanced.{Balanced}
@@ -109,14 +109,14 @@ module _ (e : ℕ → ℤ) (entries : Entries e) (b : Balanced) (sound : Sound b
         (λ t. omega (arith, doubled-most l (offsets-small (b .legs) (omega arith)), offsets-length (b .legs), sound .few)) (λ t. omega arith)
 
 -- ---- the second step, once its test is passed and the stations are put
-module _ (e : ℕ → ℤ) (entries : Entries e) (b : Balanced) (sound : Sound b) (stations : List Sums) (c : Sums) (ran : Ran e b (b .legs) stations)
-    (left : Left (b .to) (stationOf stations (b .legs)) c) (x : Bool) (t : x ≡ closes (c .north .v) (c .east .v) (c .run)) (y : x ≡ true)
-    (l words : List ℤ) (room : 130 ≤ length l) (g : words ≡ putTo stations c (b .legs + 1) l) where
+module _ (e : ℕ → ℤ) (entries : Entries e) (b : Balanced) (sound : Sound b) (end c : Sums) (stands : Stands e b (b .legs) end)
+    (left : Left (b .to) end c) (spots : List ℤ) (runs : List ℕ) (ran : Ran e b (b .legs) spots runs) (x : Bool) (t : x ≡ closes (c .north .v) (c .east .v) (c .run)) (y : x ≡ true)
+    (l words : List ℤ) (room : 130 ≤ length l) (g : words ≡ putTo spots runs c (b .legs + 1) l) where
   all-near : (axis : Axis) → natAbs (closure (line e axis b)) ≤ 26000
-  all-near axis = closes-near b sound e axis (sym (test-is e entries b sound stations c ran left x t) ∙ y)
+  all-near axis = closes-near b sound e axis (sym (test-is e entries b sound end c stands left x t) ∙ y)
 
   all-placed : words ≡ placed e b (b .legs + 1) l
-  all-placed = put-all-is e entries b sound stations c ran left l words g
+  all-placed = put-all-is e entries b sound end c stands left spots runs ran l words g
 
   pub passed-words : Placed (b .legs) words
   passed-words = placed-words e entries b sound all-near l words room all-placed
@@ -124,4 +124,4 @@ module _ (e : ℕ → ℤ) (entries : Entries e) (b : Balanced) (sound : Sound b
   pub passed-told : (p : ℕ) (a : Whole) (o : Bool) → p ≡ precision (c .north .v) (c .east .v) (c .run) → o ≡ isLoop b
       → a .v ≡ cond o (doubled (takenFrom words (b .legs))) (pos 0) → told (Adjusted (record { legs = b .legs; w = b .w; north = c .north; east = c .east; precision = p; area = a; looped = o })) ≡ second e b
   passed-told p a o f h i =
-      second-near e entries b sound stations c ran left x t p a o y f (area-of e entries b sound all-near l words room all-placed o a h i) h
+      second-near e entries b sound end c stands left x t p a o y f (area-of e entries b sound all-near l words room all-placed o a h i) h

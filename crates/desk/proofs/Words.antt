@@ -5,29 +5,16 @@ use native.Mathlib.Omega.{arith}
 use native.Mathlib.Decide.{ℕ-discrete}
 use mathlib.Core.Path.{_≡_, refl, _∙_}
 use mathlib.Core.List.{List}
-use lib.ListN.{length, getD, set, length-set}
-use lib.Seq.{getD-set-same, getD-set-other}
+use lib.ListN.{length, getD}
 use lib.IntN.{ℤ, pos}
 use Rattle.steps.specs.Course.{Axis, north, east}
 use Rattle.desk.specs.Line.{adjusted}
 use Rattle.desk.specs.Traverse.{along, line, at, placed}
 use Rattle.desk.specs.Inside.{Sound}
 use Rattle.desk.specs.declared.Balanced.{Balanced}
+use Rattle.desk.proofs.Pairs.{apart, own, before, behind}
 use Rattle.desk.proofs.Compass.{first-fixed, last-fixed}
 use Rattle.desk.proofs.Settling.{far-run, placed-length}
-
-abbrev along-pair : Axis → ℤ → ℤ → ℤ
-along-pair north x y = x
-along-pair east x y = y
-
--- a station stored at word 2n: the words apart from it, and its own
-module _ (l : List ℤ) (n : ℕ) (x y : ℤ) where
-  apart : (i : ℕ) → (i ≡ 2 * n → ⊥) → (i ≡ 2 * n + 1 → ⊥) → getD (set (set l (2 * n) x) (2 * n + 1) y) i (pos 0) ≡ getD l i (pos 0)
-  apart i e f = getD-set-other (set l (2 * n) x) (2 * n + 1) i y (pos 0) f ∙ getD-set-other l (2 * n) i x (pos 0) e
-
-  own : (axis : Axis) → 2 * n + 1 < length l → getD (set (set l (2 * n) x) (2 * n + 1) y) (at axis n) (pos 0) ≡ along-pair axis x y
-  own north h = getD-set-other (set l (2 * n) x) (2 * n + 1) (2 * n) y (pos 0) (λ e. omega arith) ∙ getD-set-same l (2 * n) x (pos 0) (omega arith)
-  own east h = getD-set-same (set l (2 * n) x) (2 * n + 1) y (pos 0) (omega (arith, length-set l (2 * n) x))
 
 module _ (e : ℕ → ℤ) (b : Balanced) (l : List ℤ) where
   -- behind the stations nothing changes
@@ -43,20 +30,12 @@ module _ (e : ℕ → ℤ) (b : Balanced) (l : List ℤ) where
   word-at axis (suc n) k h r =
       elim (ℕ-discrete k n) [
         | yes i ↦ rw i (station axis)
-        | no i ↦ apart (placed e b n l) n _ _ (at axis k) (before (omega arith) axis) (behind (omega arith) axis) ∙ word-at axis n k (omega arith) (omega arith)
+        | no i ↦ apart (placed e b n l) n _ _ (at axis k) (before n k i axis) (behind n k i axis) ∙ word-at axis n k (omega arith) (omega arith)
       ]
     where
       station : (a : Axis) → getD (placed e b (suc n) l) (at a n) (pos 0) ≡ adjusted (line e a b) n
       station north = own (placed e b n l) n _ _ north (omega (arith, placed-length e b n l))
       station east = own (placed e b n l) n _ _ east (omega (arith, placed-length e b n l))
-
-      before : k < n → (a : Axis) → at a k ≡ 2 * n → ⊥
-      before low north e = omega arith
-      before low east e = omega arith
-
-      behind : k < n → (a : Axis) → at a k ≡ 2 * n + 1 → ⊥
-      behind low north e = omega arith
-      behind low east e = omega arith
 
   module _ (sound : Sound b) (room : 130 ≤ length l) where
     -- the first and the last station are exactly the fixed ones

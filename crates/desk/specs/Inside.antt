@@ -14,7 +14,7 @@ use Rattle.steps.specs.Distance.{grid}
 use Rattle.steps.specs.Share.{share}
 use Rattle.desk.specs.Angles.{angleAt, carried, filled}
 use Rattle.desk.specs.Line.{run, preliminary}
-use Rattle.desk.specs.Traverse.{along, longOf, azimuthOf, line}
+use Rattle.desk.specs.Traverse.{along, longOf, azimuthOf, line, at}
 use Rattle.tape.specs.declared.Fields.{Fields}
 use Rattle.tape.specs.declared.Point.{Point}
 use Rattle.desk.specs.declared.Balanced.{Balanced}
@@ -77,16 +77,14 @@ pub record Stands (e : ℕ → ℤ) (b : Balanced) (k : ℕ) (s : Sums) : Type 0
   pub east : s .east .v ≡ preliminary (line e east b) k
   pub run : s .run ≡ run (longOf b) k
 
--- the list holds what is summed at the stations up to n
-abbrev pub none : Sums
-none = record { north = record { v = pos 0 }; east = record { v = pos 0 }; run = 0 }
+-- a word of a list
+abbrev pub wordAt : List ℤ → ℕ → ℤ
+wordAt words i = getD words i (pos 0)
 
-abbrev pub stationOf : List Sums → ℕ → Sums
-stationOf stations k = getD stations k none
-
-pub record Ran (e : ℕ → ℤ) (b : Balanced) (n : ℕ) (stations : List Sums) : Type 0 where
-  pub room : length stations ≡ 65
-  pub at : (k : ℕ) → k ≤ n → Stands e b k (stationOf stations k)
+-- the lists hold what is summed at the stations up to n: northing, then easting, of each, and the distance run
+pub record Ran (e : ℕ → ℤ) (b : Balanced) (n : ℕ) (spots : List ℤ) (runs : List ℕ) : Type 0 where
+  pub spot : (axis : Axis) (k : ℕ) → k ≤ n → wordAt spots (at axis k) ≡ preliminary (line e axis b) k
+  pub run : (k : ℕ) → k ≤ n → getD runs k 0 ≡ run (longOf b) k
 
 -- c is what is left at the end of the line: the sums there, less the fixed end
 pub record Left (to : Point) (end c : Sums) : Type 0 where
@@ -102,23 +100,22 @@ pub record Near (c : Sums) : Type 0 where
   pub most : c .run ≤ 1300000000
 
 -- stations 0 to n whose shares of these closures can be taken
-pub record Shared (n : ℕ) (stations : List Sums) (c : Sums) : Type 0 where
+pub record Shared (n : ℕ) (spots : List ℤ) (runs : List ℕ) (c : Sums) : Type 0 where
   pub few : n ≤ 64
-  pub room : length stations ≡ 65
-  pub small : (k : ℕ) → k ≤ n → Small (stationOf stations k)
-  pub part : (k : ℕ) → k ≤ n → stationOf stations k .run ≤ c .run
+  pub room : 130 ≤ length spots
+  pub room-run : 65 ≤ length runs
+  pub north : (k : ℕ) → k ≤ n → natAbs (wordAt spots (2 * k)) < 2 ^ 40
+  pub east : (k : ℕ) → k ≤ n → natAbs (wordAt spots (2 * k + 1)) < 2 ^ 40
+  pub part : (k : ℕ) → k ≤ n → getD runs k 0 ≤ c .run
 
 -- the words with the first k stations put in, each less its share of the closures
-unfoldable pub putTo : List Sums → Sums → ℕ → List ℤ → List ℤ
-putTo stations c zero words = words
-putTo stations c (suc k) words =
-    let s = stationOf stations k in
-    set (set (putTo stations c k words) (2 * k) (s .north .v -ℤ share (c .north .v) (s .run) (c .run))) (2 * k + 1) (s .east .v -ℤ share (c .east .v) (s .run) (c .run))
+unfoldable pub putTo : List ℤ → List ℕ → Sums → ℕ → List ℤ → List ℤ
+putTo spots runs c zero words = words
+putTo spots runs c (suc k) words =
+    let r = getD runs k 0 in
+    set (set (putTo spots runs c k words) (2 * k) (wordAt spots (2 * k) -ℤ share (c .north .v) r (c .run))) (2 * k + 1) (wordAt spots (2 * k + 1) -ℤ share (c .east .v) r (c .run))
 
 -- the first k stations of the words, northing, then easting, taken from the first
-abbrev pub wordAt : List ℤ → ℕ → ℤ
-wordAt words i = getD words i (pos 0)
-
 unfoldable pub takenFrom : List ℤ → ℕ → List ℤ
 takenFrom words zero = []
 takenFrom words (suc k) = takenFrom words k ++ ((wordAt words (2 * k) -ℤ wordAt words 0) ∷ (wordAt words (2 * k + 1) -ℤ wordAt words 1) ∷ [])

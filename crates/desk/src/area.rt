@@ -18,20 +18,13 @@ pub fn is_loop(b: Balanced) -> bool
     b.from.north == b.to.north && b.from.east == b.to.east
 }
 
-fn word(words: &[i64], at: usize) -> Whole
-    requires { ⌜ at < length (now words) ⌝ }
-    ensures { λ r. ⌜ r .v ≡ wordAt (now (words .entry)) at ⌝ }
-{
-    Whole { v: words[at] }
-}
-
 // A word, taken from another.
 fn apart(words: &[i64], at: usize, first: usize) -> Whole
     requires { ⌜ (at < length (now words)) × (first < length (now words)) ⌝ }
     requires { ⌜ (natAbs (wordAt (now words) at) < 2 ^ 40) × (natAbs (wordAt (now words) first) < 2 ^ 40) ⌝ }
     ensures { λ r. ⌜ r .v ≡ wordAt (now (words .entry)) at -ℤ wordAt (now (words .entry)) first ⌝ }
 {
-    word(words, at).minus(word(words, first))
+    places::word(words, at).minus(places::word(words, first))
 }
 
 // Station k, taken from the first: northing, then easting.

@@ -8,7 +8,7 @@ ghost use lib.ListN.{length, set};
 ghost use lib.IntN.{natAbs, _-ℤ_};
 ghost use Rattle.steps.specs.Closure.{closes, precision};
 ghost use Rattle.steps.specs.Share.{share};
-ghost use Rattle.desk.specs.Inside.{Small, Left, Near, Shared, putTo};
+ghost use Rattle.desk.specs.Inside.{Small, Left, Near, Shared, putTo, wordAt};
 
 // What is left at the end of the line.
 pub fn closing(to: Point, end: Sums) -> Sums
@@ -59,28 +59,42 @@ pub fn put(words: &mut [i64], at: usize, z: Whole)
     words[at] = v;
 }
 
-// Station k: northing, then easting.
-fn put_station(words: &mut [i64], k: usize, s: Sums, c: Sums)
-    requires { ⌜ 2 * k + 1 < length (now words) ⌝ }
-    requires { ⌜ Small s ⌝ }
-    requires { ⌜ Near c ⌝ }
-    requires { ⌜ s .run ≤ c .run ⌝ }
-    ensures { λ r. ⌜ now (words .exit) ≡ set (set (now (words .entry)) (2 * k) (s .north .v -ℤ share (c .north .v) (s .run) (c .run))) (2 * k + 1) (s .east .v -ℤ share (c .east .v) (s .run) (c .run)) ⌝ }
+pub fn word(words: &[i64], at: usize) -> Whole
+    requires { ⌜ at < length (now words) ⌝ }
+    ensures { λ r. ⌜ r .v ≡ wordAt (now (words .entry)) at ⌝ }
 {
-    put(words, 2 * k, adjust(s.north, c.north, s.run, c.run));
-    put(words, 2 * k + 1, adjust(s.east, c.east, s.run, c.run));
+    Whole { v: words[at] }
 }
 
-// Stations 0 to n, the closures and the whole distance known.
-pub fn put_all(n: usize, stations: [Sums; 65], c: Sums, words: &mut [i64])
-    requires { ⌜ Shared n stations c ⌝ }
+// Station k, whose sums are given: northing, then easting, each less its share.
+fn put_station(words: &mut [i64], k: usize, north: Whole, east: Whole, run: u64, c: Sums)
+    requires { ⌜ 2 * k + 1 < length (now words) ⌝ }
+    requires { ⌜ (natAbs (north .v) < 2 ^ 40) × (natAbs (east .v) < 2 ^ 40) ⌝ }
+    requires { ⌜ Near c ⌝ }
+    requires { ⌜ run ≤ c .run ⌝ }
+    ensures { λ r. ⌜ now (words .exit) ≡ set (set (now (words .entry)) (2 * k) (north .v -ℤ share (c .north .v) run (c .run))) (2 * k + 1) (east .v -ℤ share (c .east .v) run (c .run)) ⌝ }
+{
+    put(words, 2 * k, adjust(north, c.north, run, c.run));
+    put(words, 2 * k + 1, adjust(east, c.east, run, c.run));
+}
+
+// Stations 0 to n from what was kept of them, the closures and the whole distance known.
+pub fn put_all(n: usize, spots: &[i64], runs: &[u64], c: Sums, words: &mut [i64])
+    requires { ⌜ Shared n (now spots) (now runs) c ⌝ }
     requires { ⌜ Near c ⌝ }
     requires { ⌜ 130 ≤ length (now words) ⌝ }
-    ensures { λ r. ⌜ now (words .exit) ≡ putTo stations c (n + 1) (now (words .entry)) ⌝ }
+    ensures { λ r. ⌜ now (words .exit) ≡ putTo (now (spots .entry)) (now (runs .entry)) c (n + 1) (now (words .entry)) ⌝ }
 {
     let mut k: usize = 0;
     while k <= n {
-        put_station(words, k, stations[k], c);
+        put_station(
+            words,
+            k,
+            word(spots, 2 * k),
+            word(spots, 2 * k + 1),
+            runs[k],
+            c,
+        );
         k = k + 1;
     }
 }

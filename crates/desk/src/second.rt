@@ -20,11 +20,13 @@ pub fn settle(table: &[u32; 5401], b: Balanced, words: &mut [i64]) -> Answer
     ensures answer { λ r. ⌜ told r ≡ second (entryIn (now (table .entry))) b ⌝ }
     ensures words { λ r. ⌜ now (words .exit) ≡ secondWords (entryIn (now (table .entry))) b (now (words .entry)) ⌝ }
 {
-    let stations = legs::run_all(table, b);
+    let mut spots = [0i64; 130];
+    let mut runs = [0u64; 65];
+    let end = legs::run_all(table, b, &mut spots, &mut runs);
     let n = b.legs;
-    let c = places::closing(b.to, stations[n]);
+    let c = places::closing(b.to, end);
     if places::within_limit(c) {
-        places::put_all(n, stations, c, words);
+        places::put_all(n, &spots, &runs, c, words);
         let precision = places::precision_of(c);
         let looped = area::is_loop(b);
         let area = area::area(looped, n, words);

@@ -1,20 +1,21 @@
--- `run_all` meets its contract. The loop's invariant: the sums are those of the station reached, and the list holds them for every station up to it. The
+-- `run_all` meets its contract. The loop's invariant: the sums are those of the station reached, and the lists hold them for every station up to it. The
 -- measure is the legs that are left.
-use mathlib.Core.Path.{refl}
-use Prim.Native.Nat.{_-_, _≤_}
 use borrow.Author.Needs.{needs}
+use Rattle.desk.proofs.legs.run_all.Statement.{statement}
+use mathlib.Core.Path.{_≡_}
+use Prim.Native.Nat.{_-_, _≤_}
+use lib.ListN.{length}
 use Rattle.sines.specs.Sine.{entryIn}
 use Rattle.sines.proofs.Own.{lent-entries}
 use Rattle.desk.specs.Inside.{Stands, Ran}
-use Rattle.desk.proofs.Running.{leg-sound, stands-small, stands-first, stands-next, ran-first, ran-next, ran-last}
-use Rattle.desk.proofs.legs.run_all.Statement.{statement}
+use Rattle.desk.proofs.Running.{leg-sound, stands-small, stands-first, stands-next, stands-last, ran-first, ran-next, ran-last}
 use Rattle.desk.proofs.legs.run_all.Tie as tie
 
 abbrev Inv-loop : tie.InvT-loop
-Inv-loop table b s₀ stations₀ k₀ s stations k = (k ≤ b .legs) × Stands (entryIn table) b k s × Ran (entryIn table) b k stations
+Inv-loop table spots₀ runs₀ b s₀ k₀ spots runs s k = (k ≤ b .legs) × Stands (entryIn table) b k s × Ran (entryIn table) b k spots runs × (length spots ≡ length spots₀) × (length runs ≡ length runs₀)
 
 abbrev μ-loop : tie.MeasureT-loop
-μ-loop table b s₀ stations₀ k₀ s stations k = b .legs - k
+μ-loop table spots₀ runs₀ b s₀ k₀ spots runs s k = b .legs - k
 
 cast-of-size : tie.Need-cast-of-size Inv-loop μ-loop
 cast-of-size c = search needs
@@ -28,11 +29,11 @@ cast-of-size-2 c = search needs
 of-size-requires-2 : tie.Need-of-size-requires-2 Inv-loop μ-loop
 of-size-requires-2 c κs = search needs
 
-array-set-from-stations : tie.Need-array-set-from-stations Inv-loop μ-loop
-array-set-from-stations c = search needs
+keep-requires : tie.Need-keep-requires Inv-loop μ-loop
+keep-requires c κs = search needs
 
 loop-holds : tie.Need-loop-holds Inv-loop μ-loop
-loop-holds c = (search needs, search stands-first, ran-first _ _ _ refl (search stands-first))
+loop-holds c = (search needs, search stands-first, search ran-first, search needs, search needs)
 
 mul-advance : tie.Need-mul-advance Inv-loop μ-loop
 mul-advance c = search needs
@@ -52,20 +53,31 @@ advance-requires c κs = (search leg-sound, search (stands-small, lent-entries))
 add-k : tie.Need-add-k Inv-loop μ-loop
 add-k c = search needs
 
-mul-stations : tie.Need-mul-stations Inv-loop μ-loop
-mul-stations c = search needs
-
-array-set-from-stations-2 : tie.Need-array-set-from-stations-2 Inv-loop μ-loop
-array-set-from-stations-2 c = search needs
+keep-requires-2 : tie.Need-keep-requires-2 Inv-loop μ-loop
+keep-requires-2 c κs = search needs
 
 loop-less : tie.Need-loop-less Inv-loop μ-loop
 loop-less c = search needs
 
 loop-again : tie.Need-loop-again Inv-loop μ-loop
-loop-again c = (search needs, search stands-next, search (stands-next, ran-next))
+loop-again c = (
+  search needs,
+  search stands-next,
+  ran-next _ _ _ (c .before .before .before .before .before .before .before .before .before .before .loop .s) (c .before .before .before .before .before .before .advance .result) (c .before .before .before .before .before .before .before .before .before .before .before .before .before .before .before .before .before .before .before .before .args .spots .now) (c .before .before .before .before .before .before .before .before .before .before .loop .spots) _
+      (c .before .before .before .before .before .before .before .before .before .before .before .before .before .before .before .before .before .before .before .before .args .runs .now) (c .before .before .before .before .before .before .before .before .before .before .loop .runs) _ (c .before .before .before .keep2 .ensures .0) (c .before .before .before .keep2 .ensures .1)
+      (search needs) (search needs) (search needs) (search needs) (search needs) (c .before .before .before .before .before .before .before .before .before .before .before .before .before .before .before .before .before .before .before .before .pre .1 .0) (c .before .before .before .before .before .before .before .before .before .before .before .before .before .before .before .before .before .before .before .before .pre .1 .1) (search needs) (search needs),
+  search needs,
+  search needs,
+)
+
+same-length : tie.Need-same-length Inv-loop μ-loop
+same-length c = search needs
+
+same-length-2 : tie.Need-same-length-2 Inv-loop μ-loop
+same-length-2 c = search needs
 
 returns : tie.Need-returns Inv-loop μ-loop
-returns c = search ran-last
+returns c = (search ran-last, search stands-last)
 
 pub run-all-spec : {M : Type 1} → statement M
 run-all-spec =
@@ -77,7 +89,7 @@ run-all-spec =
     of-size-requires
     cast-of-size-2
     of-size-requires-2
-    array-set-from-stations
+    keep-requires
     loop-holds
     mul-advance
     element-copy-out-advance
@@ -85,8 +97,9 @@ run-all-spec =
     element-copy-out-advance-2
     advance-requires
     add-k
-    mul-stations
-    array-set-from-stations-2
+    keep-requires-2
     loop-less
     loop-again
+    same-length
+    same-length-2
     returns)

@@ -1,31 +1,46 @@
 -- `put_all` meets its contract. The loop's invariant: the words have the stations before the one reached. The measure is the stations that are left.
+use borrow.Author.Needs.{needs}
+use Rattle.desk.proofs.places.put_all.Statement.{statement}
 use mathlib.Core.Path.{_≡_, refl}
 use Prim.Native.Nat.{_+_, _-_, _≤_}
-use borrow.Author.Needs.{needs}
 use lib.ListN.{length}
 use Rattle.desk.specs.Inside.{putTo}
-use Rattle.desk.proofs.Settling.{station-room, station-small, station-part, put-next, put-last}
-use Rattle.desk.proofs.places.put_all.Statement.{statement}
+use Rattle.desk.proofs.Settling.{spot-room, run-room, north-fits, east-fits, part-fits, station-room, put-next, put-last}
 use Rattle.desk.proofs.places.put_all.Tie as tie
 
 abbrev Inv-loop : tie.InvT-loop
-Inv-loop n c words₀ stations k₀ words k = (k ≤ n + 1) × (words ≡ putTo stations c k words₀) × (length words ≡ length words₀)
+Inv-loop n spots runs c words₀ k₀ words k = (k ≤ n + 1) × (words ≡ putTo spots runs c k words₀) × (length words ≡ length words₀)
 
 abbrev μ-loop : tie.MeasureT-loop
-μ-loop n c words₀ stations k₀ words k = n + 1 - k
+μ-loop n spots runs c words₀ k₀ words k = n + 1 - k
 
 loop-holds : tie.Need-loop-holds Inv-loop μ-loop
 unfolding putTo
 loop-holds c = (search needs, refl, refl)
 
+mul-word : tie.Need-mul-word Inv-loop μ-loop
+mul-word c = search needs
+
+word-requires : tie.Need-word-requires Inv-loop μ-loop
+word-requires c κs = search (spot-room, needs)
+
+mul-word-2 : tie.Need-mul-word-2 Inv-loop μ-loop
+mul-word-2 c = search needs
+
+add-word : tie.Need-add-word Inv-loop μ-loop
+add-word c = search needs
+
+word-requires-2 : tie.Need-word-requires-2 Inv-loop μ-loop
+word-requires-2 c κs = search (spot-room, needs)
+
 mul-put-station : tie.Need-mul-put-station Inv-loop μ-loop
 mul-put-station c = search needs
 
-array-copy-out-put-station : tie.Need-array-copy-out-put-station Inv-loop μ-loop
-array-copy-out-put-station c = search needs
+shared-slice-read-put-station : tie.Need-shared-slice-read-put-station Inv-loop μ-loop
+shared-slice-read-put-station c = search run-room
 
 put-station-requires : tie.Need-put-station-requires Inv-loop μ-loop
-put-station-requires c κs = (search station-room, (search station-small, (search needs, search station-part)))
+put-station-requires c κs = (search station-room, ((search north-fits, search east-fits), (search needs, search part-fits)))
 
 add-k : tie.Need-add-k Inv-loop μ-loop
 add-k c = search needs
@@ -49,8 +64,13 @@ put-all-spec =
     Inv-loop
     μ-loop
     loop-holds
+    mul-word
+    word-requires
+    mul-word-2
+    add-word
+    word-requires-2
     mul-put-station
-    array-copy-out-put-station
+    shared-slice-read-put-station
     put-station-requires
     add-k
     loop-less
