@@ -5,8 +5,7 @@
  * what is read nor anything else that is written.
  *
  * Nothing is allocated and no state is kept between calls, so any number of threads may call at once, as long as no memory that one of them has
- * written is lent to another. The library is for x86-64 Linux and needs memcpy and memset of the C library; a call takes up to 32 KB of stack,
- * most of it the desk's own table of sines, which the functions that end in _in do without.
+ * written is lent to another. The library is for x86-64 Linux and needs at most memcpy and memset of the C library; a call takes up to 8 KB of stack.
  *
  * Every function but vas_table returns a number: 0 where the input is accepted, else the number of the refusal. On acceptance every place that is
  * told is 0.
@@ -65,7 +64,7 @@ uint32_t vas_grid(uint64_t distance, uint64_t factor, uint64_t *value);
 /* ---- sines */
 
 /* The desk's own table of sines, written into the caller's: the sine of every whole minute from 0 to 90 degrees. A program that works many
- * tapes takes it once and lends it to the functions that end in _in. */
+ * tapes takes it once and lends it to the functions that end in _in, which then need not work out each entry. */
 void vas_table(uint32_t table[VAS_TABLE]);
 
 /* The sine and the cosine of an angle. */

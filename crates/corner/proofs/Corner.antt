@@ -7,13 +7,12 @@ use mathlib.Core.Path.{_≡_, sym, _∙_, ap}
 use mathlib.Core.List.{List}
 use lib.ListN.{length, getD}
 use lib.IntN.{ℤ, pos, natAbs, _-ℤ_, _*ℤ_}
-use Rattle.sines.specs.Sine.{entry}
+use Rattle.minutes.specs.Entry.{entry}
 use Rattle.steps.specs.Course.{Axis}
 use Rattle.tape.specs.Fields.{fieldsOf}
 use Rattle.steps.proofs.Laws.{product-most}
 use Rattle.desk.specs.declared.Answer.{Answer}
-use Rattle.desk.specs.declared.Balanced.{Balanced}
-use Rattle.desk.specs.Angles.{balancedTraverse}
+use Rattle.desk.specs.Angles.{Balanced, balancedTraverse}
 use Rattle.desk.specs.Answer.{Told, told, traversed, traversedWords}
 use Rattle.desk.specs.Inside.{Sound}
 use Rattle.desk.specs.Line.{run, adjusted}

@@ -9,9 +9,10 @@ use lib.IntN.{ℤ, pos, negℤ, natAbs, _+ℤ_, _-ℤ_, _*ℤ_}
 use Rattle.whole.proofs.Laws.{abs-mul, triangle}
 use Rattle.whole.proofs.Ring.{ring, exps}
 use Rattle.whole.proofs.Rounding.{nearest-is}
-use Rattle.sines.specs.Exact.{unity, Within}
-use Rattle.sines.specs.Quadrant.{circle}
-use Rattle.sines.specs.Sine.{entry, units}
+use Rattle.minutes.specs.Entry.{entry}
+use Rattle.minutes.specs.Exact.{unity, Within}
+use Rattle.minutes.specs.Quadrant.{circle}
+use Rattle.sines.specs.Sine.{units}
 use Rattle.sines.proofs.Bound.{unity-positive, sine-near, cosine-near}
 use Rattle.steps.specs.Course.{Axis, north, east, move, sineAlong, course}
 use Rattle.corner.specs.Unrounded.{exactAlong, fine, exactMove, perLeg}

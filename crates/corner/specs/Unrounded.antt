@@ -1,11 +1,11 @@
 -- Demand 3: the traverse that is nowhere rounded, as exact fractions, and the bound on how far a station may stand from it.
 use Prim.Native.Nat.{ℕ, _+_, _-_, _*_, _≤_, _<_, max}
 use lib.IntN.{ℤ, pos, negℤ, natAbs, _-ℤ_, _*ℤ_}
-use Rattle.sines.specs.Exact.{unity, exactSine, exactCosine}
+use Rattle.minutes.specs.Exact.{unity, exactSine, exactCosine}
 use Rattle.steps.specs.Course.{Axis, north, east}
 use Rattle.desk.specs.Line.{Line, run, runAll, preliminary, closure}
 use Rattle.desk.specs.Traverse.{along, longOf, azimuthOf}
-use Rattle.desk.specs.declared.Balanced.{Balanced}
+use Rattle.desk.specs.Angles.{Balanced}
 
 -- so many parts, of which so many make a hundredth of a foot
 pub record Fraction : Type 0 where

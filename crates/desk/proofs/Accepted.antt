@@ -20,10 +20,8 @@ use Rattle.tape.specs.Tape.{readingOf}
 use Rattle.tape.specs.Fields.{fieldsOf, DoesRead}
 use Rattle.whole.proofs.Branch.{by-test}
 use Rattle.tape.proofs.Refusals.{reading-number}
-use Rattle.desk.specs.declared.Balanced.{Balanced}
-use Rattle.desk.specs.declared.First.{First}
-use Rattle.desk.specs.Angles.{carried, misclosureOf, balancedTraverse}
-use Rattle.desk.specs.Answer.{Told, firstIf, firstOf, checkedAngles, northClosure, eastClosure, distanceRun, closesOn, second, secondWords, afterFirst, firstFor, traversedBy, traversedWordsBy}
+use Rattle.desk.specs.Angles.{carried, misclosureOf, Balanced, balancedTraverse}
+use Rattle.desk.specs.Answer.{Told, First, firstIf, firstOf, checkedAngles, northClosure, eastClosure, distanceRun, closesOn, second, secondWords, afterFirst, firstFor, traversedBy, traversedWordsBy}
 use Rattle.desk.specs.Inside.{Sound}
 use Rattle.desk.specs.Line.{closure, adjusted}
 use Rattle.desk.specs.Traverse.{along, line, at, placed}
@@ -58,7 +56,7 @@ module _ (e : ℕ → ℤ) (tape : List ℕ) (room : ℕ) where
   Shown t = t .number ≡ 0 → Accepted e tape room
 
   abbrev ShownAfter : First → Type 0
-  ShownAfter x = Shown (afterFirst e (x .checked) (x .balanced))
+  ShownAfter x = Shown (afterFirst e x)
 
   pub accepted : Shown (traversedBy e tape room)
   unfolding traversedBy firstFor firstOf checkedAngles second
@@ -78,7 +76,7 @@ module _ (e : ℕ → ℤ) (tape : List ℕ) (room : ℕ) where
   Nine t = t .number ≤ 9
 
   abbrev NineAfter : First → Type 0
-  NineAfter x = Nine (afterFirst e (x .checked) (x .balanced))
+  NineAfter x = Nine (afterFirst e x)
 
   pub number-most : Nine (traversedBy e tape room)
   unfolding traversedBy firstFor firstOf checkedAngles second

@@ -8,12 +8,10 @@ use lib.Dec.{ltb}
 use lib.ListN.{length}
 use lib.IntN.{ℤ}
 use Rattle.steps.specs.Azimuth.{closesAngles, onward}
-use Rattle.tape.specs.declared.Fields.{Fields}
-use Rattle.tape.specs.Fields.{fieldsOf, DoesRead}
-use Rattle.desk.specs.declared.Balanced.{Balanced}
-use Rattle.desk.specs.declared.Checked.the-variants.{Good}
-use Rattle.desk.specs.Angles.{angleAt, carried, misclosureOf, balancedOf, filled, zeros, balancedTraverse}
-use Rattle.desk.specs.Answer.{refusedFirst, checkedAngles, firstOf, closesOn, second, secondWords, firstFor, traversedBy, wordsAfterFirst, traversedWordsBy}
+use Rattle.tape.specs.Fields.{Fields, fieldsOf, DoesRead}
+use Rattle.whole.specs.Filled.{filled}
+use Rattle.desk.specs.Angles.{angleAt, carried, misclosureOf, balancedOf, zeros, Balanced, balancedTraverse}
+use Rattle.desk.specs.Answer.{stopped, good, checkedAngles, firstOf, closesOn, second, secondWords, firstFor, traversedBy, wordsAfterFirst, traversedWordsBy}
 use Rattle.desk.specs.Traverse.{placed, offsetsTo, areaOf}
 use Rattle.desk.proofs.Accepted.{Accepted, accepted, accepted-told}
 
@@ -111,12 +109,11 @@ module _ (e : ℕ → ℤ) (f : Fields) where
   abbrev wordsFrom : List ℤ → List ℤ
   wordsFrom words = cond (closesAngles (misclosureOf f) (f .legs)) (secondWords e b words) words
 
-  words-from : (words : List ℤ) → wordsAfterFirst e (checkedAngles f .checked) (checkedAngles f .balanced) words ≡ wordsFrom words
+  words-from : (words : List ℤ) → wordsAfterFirst e (checkedAngles f) words ≡ wordsFrom words
   unfolding checkedAngles
   words-from words = go (closesAngles (misclosureOf f) (f .legs))
     where
-      go : (x : Bool) → (let a = cond x (record { checked = Good; balanced = b }) (refusedFirst 8 (f .place)) in wordsAfterFirst e (a .checked) (a .balanced) words)
-          ≡ cond x (secondWords e b words) words
+      go : (x : Bool) → wordsAfterFirst e (cond x (good b) (stopped 8 (f .place))) words ≡ cond x (secondWords e b words) words
       go true = refl
       go false = refl
 
@@ -151,9 +148,7 @@ module _ (e : ℕ → ℤ) (s t : List ℕ) (a : DoesRead s) (b : DoesRead t) (s
   fields-alone-words words = go (ltb (length words) 130)
     where
       -- with too few words, and with enough
-      go : (x : Bool)
-          → (let y = cond x (refusedFirst 1 0) (firstOf s) in wordsAfterFirst e (y .checked) (y .balanced) words)
-          ≡ (let z = cond x (refusedFirst 1 0) (firstOf t) in wordsAfterFirst e (z .checked) (z .balanced) words)
+      go : (x : Bool) → wordsAfterFirst e (cond x (stopped 1 0) (firstOf s)) words ≡ wordsAfterFirst e (cond x (stopped 1 0) (firstOf t)) words
       go true = refl
       go false =
           let h = by-bare (λ u. wordsFrom e u words) (rw (angles-bare f, words-bare e f words)) (rw (angles-bare g, words-bare e g words)) in

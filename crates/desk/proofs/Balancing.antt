@@ -1,17 +1,13 @@
--- Azimuths along the legs: a step whose input is in range gives its value, and that is within the circle, being a remainder by it. So the azimuth that
--- a loop holds at leg k is the carried one, and the list that it fills holds the balanced ones up to there.
+-- Azimuths along the legs: a step whose input is in range gives its value, and that is within the circle, being a remainder by it. So all azimuths
+-- are, and a list in which the first legs are balanced still has the carried azimuth of each later one.
 use Prim.Native.Nat.{ℕ, zero, suc, _+_, _%_, _≤_, _<_}
 use native.Mathlib.Omega.{arith}
-use native.Mathlib.Numerals.{add-one}
 use native.Mathlib.Nat.{mod-lt}
-use native.Mathlib.Decide.{decLt}
-use mathlib.Core.Path.{_≡_, refl, _∙_, ap, subst}
+use mathlib.Core.Path.{_≡_, _∙_, ap}
 use mathlib.Core.Bool.{Bool}
 use mathlib.Core.List.{List, [], _∷_}
-use borrow.Author.Needs.{read-below}
 use borrow.Author.Tests.{le-leb, lt-ltb}
-use lib.ListN.{length, getD, set, replicate, length-set}
-use lib.Seq.{getD-set-same}
+use lib.ListN.{length, getD, set, length-replicate}
 use lib.IntN.{ℤ, pos, natAbs, negℤ}
 use Rattle.whole.specs.Order.{_≤ᶻ_, _<ᶻ_}
 use Rattle.whole.proofs.Diff.{vars, ints, abs-under, le, lt}
@@ -20,17 +16,16 @@ use Rattle.answer.specs.declared.Count.{Count}
 use Rattle.answer.specs.declared.Verdict.{Verdict}
 use Rattle.answer.specs.Told.{told, toldCount, toldVerdict, passes}
 use Rattle.answer.proofs.Telling.{value-given, verdict-given, both, inside-yes}
-use Rattle.sines.specs.Quadrant.{circle}
-use Rattle.steps.specs.Azimuth.{halfCircle, onward, misclosure, closesAngles, balanced, ofAngles, misclosureStep, misclosureTest, balancedStep}
-use Rattle.steps.specs.Distance.{seaLevel, combine}
+use Rattle.minutes.specs.Quadrant.{circle}
+use Rattle.steps.specs.Azimuth.{halfCircle, misclosure, closesAngles, balanced, ofAngles, misclosureStep, misclosureTest, balancedStep}
 use Rattle.steps.specs.Share.{share, angleShareStep}
 use Rattle.steps.proofs.Sharing.{share-most}
 use Rattle.steps.proofs.Turning.{turn-is, misclosure-is}
-use Rattle.desk.specs.Angles.{angleAt, carried, misclosureOf, balancedOf, filled, zeros, balancedTraverse}
+use Rattle.desk.specs.Angles.{carried, misclosureOf, balancedOf, zeros, balancedTraverse}
 use Rattle.desk.specs.Traverse.{azimuthOf}
-use Rattle.desk.specs.Inside.{Turned, Ready, Sound, carriedAll}
-use Rattle.whole.specs.declared.Whole.{Whole}
-use Rattle.tape.specs.declared.Fields.{Fields}
+use Rattle.desk.specs.Inside.{Ready, Sound, AllTurned, balancedBy, balancedIn}
+use Rattle.tape.specs.Fields.{Fields}
+use Rattle.whole.proofs.Filling.{filled-length, filled-at, filled-behind, filled-on}
 use Rattle.desk.proofs.Scaling.{combined-range}
 
 -- ---- an azimuth from two angles
@@ -76,96 +71,47 @@ module _ (p : Amount) (r : Count) (n azimuth k legs : ℕ) (s w : ℤ) (f : pos 
   pub balanced-turned : n < circle
   balanced-turned = rw balanced-is (balanced-most azimuth (share w (k + 1) (legs + 1)))
 
--- ---- the list that is filled
-module _ (g : ℕ → ℕ) (l : List ℕ) where
-  filled-length : (n : ℕ) → length (filled g n l) ≡ length l
-  unfolding filled
-  filled-length zero = refl
-  filled-length (suc n) = length-set (filled g n l) n (g n) ∙ filled-length n
+-- ---- the azimuths carried along the legs, and in the place of each the balanced one
+pub carried-turned : (f : Fields) (k : ℕ) → carried f k < circle
+unfolding carried
+carried-turned f zero = mod-lt _ (omega arith)
+carried-turned f (suc k) = mod-lt _ (omega arith)
 
-  filled-at : (n k : ℕ) → n ≤ length l → k < n → getD (filled g n l) k 0 ≡ g k
-  unfolding filled
-  filled-at zero k h i = absurd (omega arith)
-  filled-at (suc n) k h i =
-      elim (decLt k n) [
-        | yes j ↦ read-below ℕ (filled g n l) n k (g n) 0 (g k) j (filled-at n k (omega arith) j)
-        | no j ↦ let e : k ≡ n = omega arith in rw e (getD-set-same (filled g n l) n (g n) 0 (omega (arith, filled-length n)))
-      ]
+module _ (w : ℤ) (legs k : ℕ) (l m : List ℕ) (h : k < legs) (t : AllTurned legs l) (e : m ≡ balancedIn w legs k l) where
+  pub balancing-room : k < length m
+  balancing-room = rw e (omega (arith, filled-length (balancedBy w legs l) l k, t .room))
 
-  pub filled-on : (k r : ℕ) (m : List ℕ) → m ≡ filled g k l → r ≡ g k → set m k r ≡ filled g (k + 1) l
-  unfolding filled
-  filled-on k r m e h = rw (add-one k, e, h)
+  unbalanced-yet : getD m k 0 ≡ getD l k 0
+  unbalanced-yet = rw e (filled-behind (balancedBy w legs l) l k k (omega arith))
 
--- ---- the azimuths carried along the legs
+  pub balancing-turned : getD m k 0 < 12960000
+  balancing-turned = rw unbalanced-yet (t .each k h)
+
+  pub balancing-next : (r : ℕ) → r ≡ balanced (getD m k 0) (share w (k + 1) (legs + 1)) → set m k r ≡ balancedIn w legs (k + 1) l
+  balancing-next r g = filled-on (balancedBy w legs l) l k r m e (g ∙ rw unbalanced-yet)
+
+-- ---- the misclosure
+module _ (r : Amount) (v : ℤ) (closing given : ℕ) (g : v ≡ told r .value) (e : told r ≡ misclosureStep closing given) (h : closing < circle) (i : given < circle) where
+  pub misclosure-value : v ≡ misclosure closing given
+  misclosure-value = g ∙ value-given (told r) _ _ e (both _ _ (lt-ltb closing circle h) (lt-ltb given circle i))
+
+  pub misclosure-small : natAbs v ≤ 6480000
+  misclosure-small = rw misclosure-value (misclosure-most closing given)
+
+-- ---- the traverse with its angles balanced
 module _ (f : Fields) where
-  carried-turned : (k : ℕ) → carried f k < circle
-  unfolding carried
-  carried-turned zero = mod-lt _ (omega arith)
-  carried-turned (suc k) = mod-lt _ (omega arith)
-
-  module _ (l : List ℕ) (e : l ≡ carriedAll f) (few : f .legs ≤ 64) (k : ℕ) (h : k ≤ f .legs) where
-    pub carried-at : getD l k 0 ≡ carried f k
-    carried-at = rw e (filled-at (carried f) (replicate 65 0) (f .legs + 1) k (omega arith) (omega arith))
-
-    pub turned-at : getD l k 0 < 12960000
-    turned-at = rw carried-at (carried-turned k)
-
-  -- the misclosure, by the last of them
-  module _ (l : List ℕ) (r : Amount) (v : ℤ) (i : l ≡ carriedAll f) (t : Turned f) (g : v ≡ told r .value) (e : told r ≡ misclosureStep (getD l (f .legs) 0) (f .given)) where
-    pub misclosure-value : v ≡ misclosureOf f
-    unfolding misclosureOf
-    misclosure-value =
-        let c = carried-at l i (t .few) (f .legs) (omega arith) in
-        let h = turned-at l i (t .few) (f .legs) (omega arith) in
-        g ∙ value-given (told r) _ _ e (both _ _ (lt-ltb (getD l (f .legs) 0) circle h) (lt-ltb (f .given) circle (t .given))) ∙ ap (λ (a : ℕ). misclosure a (f .given)) c
-
-    pub misclosure-small : natAbs v ≤ 6480000
-    unfolding misclosureOf
-    misclosure-small = rw misclosure-value (misclosure-most (carried f (f .legs)) (f .given))
-
--- ---- along the legs
-module _ (f : Fields) where
-  pub angle-first : Turned f → angleAt f 0 < circle
-  angle-first t = t .angles 0 (omega arith)
-
-  pub angle-next : (k : ℕ) → Turned f → k < f .legs → angleAt f (k + 1) < circle
-  angle-next k t h = t .angles (k + 1) (omega arith)
-
-  pub carried-next : (k a r : ℕ) → r ≡ onward a (angleAt f (k + 1)) → a ≡ carried f k → r ≡ carried f (k + 1)
-  unfolding carried
-  carried-next k a r e g = e ∙ rw (add-one k, g)
-
-  pub carried-last : (k a : ℕ) (l : List ℕ) → k ≤ f .legs → f .legs ≤ k → l ≡ filled (carried f) k (replicate 65 0) → a ≡ carried f k → set l k a ≡ carriedAll f
-  carried-last k a l h i e g =
-      let j : k ≡ f .legs = omega arith in
-      subst (λ (n : ℕ). set l k a ≡ filled (carried f) (n + 1) (replicate 65 0)) j (filled-on (carried f) (replicate 65 0) k a l e g)
-
-  pub filled-next : (k r : ℕ) (w : ℤ) (l m c : List ℕ) → r ≡ balanced (getD c k 0) (share w (k + 1) (f .legs + 1)) → l ≡ filled (balancedOf f) k m → c ≡ carriedAll f
-      → Turned f → k < f .legs → w ≡ misclosureOf f → set l k r ≡ filled (balancedOf f) (k + 1) m
-  unfolding balancedOf
-  filled-next k r w l m c i e g t h j = filled-on (balancedOf f) m k r l e (i ∙ rw (carried-at f c g (t .few) k (omega arith), j))
-
-  pub filled-last : (k : ℕ) (l : List ℕ) → k ≤ f .legs → f .legs ≤ k → l ≡ filled (balancedOf f) k zeros → l ≡ filled (balancedOf f) (f .legs) zeros
-  filled-last k l h i e = let j : k ≡ f .legs = omega arith in subst (λ (n : ℕ). l ≡ filled (balancedOf f) n zeros) j e
-
-  -- ---- the traverse with its angles balanced
-  pub traverse-is : (w : Whole) (l : List ℕ) (n : ℕ) → w .v ≡ misclosureOf f → l ≡ filled (balancedOf f) (f .legs) zeros → n ≡ combine (seaLevel (f .elevation .v)) (f .scale)
-      → record { legs = f .legs; w = w; azimuths = l; distances = f .distances; factor = n; from = f .from; to = f .to; place = f .place } ≡ balancedTraverse f
-  unfolding balancedTraverse
-  traverse-is w l n e g h = rw (← e, ← g, ← h)
-
   -- the azimuth that leg k has in it is its balanced one
   leg-azimuth : (k : ℕ) → k < f .legs → f .legs ≤ 64 → azimuthOf (balancedTraverse f) k ≡ balancedOf f k
   unfolding balancedTraverse
-  leg-azimuth k h few = filled-at (balancedOf f) zeros (f .legs) k (omega arith) h
+  leg-azimuth k h few = filled-at (balancedOf f) zeros (f .legs) k (omega (arith, length-replicate {A = ℕ} 64 0)) h
 
   pub sound-of : Ready f → Sound (balancedTraverse f)
   unfolding balancedTraverse balancedOf
   sound-of r =
       let s = combined-range (f .elevation .v) (f .scale) (r .elevation) (r .scale-low) (r .scale-high) in
       record {
-        some = r .turned .some;
-        few = r .turned .few;
+        some = r .some;
+        few = r .few;
         leg =
             λ k h.
             record {
@@ -173,7 +119,7 @@ module _ (f : Fields) where
               most = s .1;
               far = r .far k h;
               near = r .near k h;
-              turned = rw (leg-azimuth k h (r .turned .few)) (balanced-most (carried f k) (share (misclosureOf f) (k + 1) (f .legs + 1)));
+              turned = rw (leg-azimuth k h (r .few)) (balanced-most (carried f k) (share (misclosureOf f) (k + 1) (f .legs + 1)));
             };
         from = r .from;
         to = r .to;

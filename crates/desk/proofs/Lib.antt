@@ -1,6 +1,7 @@
 pub mod Accepted
 pub mod Alone
 pub mod Balancing
+pub mod Carrying
 pub mod Compass
 pub mod Looping
 pub mod Pairs

@@ -14,17 +14,17 @@ use Rattle.answer.specs.declared.Amount.{Amount}
 use Rattle.answer.specs.Told.{told}
 use Rattle.answer.proofs.Telling.{value-given, both, inside-yes}
 use Rattle.steps.specs.Area.{areaStep, doubled}
-use Rattle.desk.specs.Traverse.{isLoop}
+use Rattle.tape.specs.declared.Point.{Point}
+use Rattle.desk.specs.Traverse.{same}
 use Rattle.desk.specs.Inside.{wordAt, takenFrom, Placed}
-use Rattle.desk.specs.declared.Balanced.{Balanced}
 
 -- ---- whether there is a loop
-module _ (b : Balanced) where
-  pub loop-known : b .from .north ≡ b .to .north → eqb (b .from .east) (b .to .east) ≡ isLoop b
-  loop-known e = rw (eq-eqb (b .from .north) (b .to .north) e)
+module _ (p q : Point) where
+  pub same-known : p .north ≡ q .north → eqb (p .east) (q .east) ≡ same p q
+  same-known e = rw (eq-eqb (p .north) (q .north) e)
 
-  pub loop-not : (b .from .north ≡ b .to .north → ⊥) → eqb (b .from .north) (b .to .north) ≡ isLoop b
-  loop-not n = rw (ne-eqb (b .from .north) (b .to .north) n)
+  pub same-not : (p .north ≡ q .north → ⊥) → eqb (p .north) (q .north) ≡ same p q
+  same-not n = rw (ne-eqb (p .north) (q .north) n)
 
 -- a word, which the code has in a local
 pub word-fits : (z w : ℤ) → z ≡ w → natAbs w < 2 ^ 40 → natAbs z < 2 ^ 62

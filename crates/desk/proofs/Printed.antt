@@ -7,9 +7,10 @@ use lib.ListN.{replicate}
 use lib.IntN.{ℤ, pos, negℤ}
 use Rattle.whole.specs.Nearest.{nearest}
 use Rattle.whole.specs.Sum.{sumTo}
-use Rattle.sines.specs.Exact.{exactSine, exactQuarter, bySeries, series, weight, unity, straight, pi, factorial}
-use Rattle.sines.specs.Quadrant.{around, turned, folded}
-use Rattle.sines.specs.Sine.{entry, between, quarterBy, sineBy}
+use Rattle.minutes.specs.Entry.{entry}
+use Rattle.minutes.specs.Exact.{exactSine, exactQuarter, bySeries, series, weight, unity, straight, pi, factorial}
+use Rattle.minutes.specs.Quadrant.{around, turned, folded}
+use Rattle.sines.specs.Sine.{between, quarterBy, sineBy}
 use Rattle.steps.specs.Area.{cross, nextStation, doubledTo}
 use Rattle.steps.specs.Azimuth.{turn, misclosure, closesAngles, balanced}
 use Rattle.steps.specs.Closure.{closes, root, precision}
@@ -19,11 +20,11 @@ use Rattle.steps.specs.Share.{share}
 use Rattle.tape.specs.Bytes.{num, bytes, meant, written}
 use Rattle.tape.specs.Record.{Rec, rec, table, fieldsOf, bodyOf, numbersOf, goodOf, bytesOf}
 use Rattle.tape.specs.Tape.{mayCome, roomOf, rowNext, projectNext, afterOf, takeOf, judge, stepOf, walk, readingOf, recordsFrom, tapeOf}
-use Rattle.tape.specs.Fields.{nothing, putIn, gathered, isRow, scaleOf}
-use Rattle.tape.specs.Fields.{fieldsOf as named}
+use Rattle.tape.specs.Fields.{nothing, putIn, gathered, isRow, scaleOf, fieldsOf as named}
 use Rattle.desk.specs.Line.{run, preliminary, adjusted}
 use Rattle.desk.specs.Traverse.{placed, offsetsTo, areaOf}
-use Rattle.desk.specs.Angles.{carried, misclosureOf, balancedOf, filled, balancedTraverse}
+use Rattle.whole.specs.Filled.{filled}
+use Rattle.desk.specs.Angles.{carried, misclosureOf, balancedOf, balancedTraverse}
 use Rattle.desk.specs.Answer.{Told, checkedAngles, firstOf, firstFor, closesOn, second, secondWords, traversedBy, traversedWordsBy, traversed, traversedWords}
 
 -- two rows, the project, the start, four legs of a square, and the close on the same point, half a second off

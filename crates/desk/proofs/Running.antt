@@ -7,27 +7,28 @@ use native.Mathlib.Decide.{ℕ-discrete}
 use native.Mathlib.Nat.{mod-lt}
 use mathlib.Core.Path.{_≡_, refl, _∙_, ap, subst}
 use mathlib.Core.List.{List, [], _∷_}
-use borrow.Author.Tests.{le-leb, lt-ltb}
 use lib.ListN.{length, getD, set}
 use lib.Seq.{getD-set-same, getD-set-other}
 use lib.IntN.{ℤ, pos, natAbs, negℤ, _+ℤ_, _-ℤ_, _*ℤ_}
 use Rattle.whole.proofs.Laws.{abs-neg, abs-mul, near-most, triangle}
 use Rattle.whole.proofs.Ring.{ring, exps}
 use Rattle.whole.proofs.Rounding.{half-up-most, nearest-most}
-use Rattle.answer.specs.declared.Amount.{Amount}
 use Rattle.answer.specs.declared.Count.{Count}
-use Rattle.answer.specs.Told.{told, toldCount}
+use Rattle.answer.specs.Told.{toldCount}
 use Rattle.answer.proofs.Telling.{value-given, both, inside-yes}
-use Rattle.sines.specs.Quadrant.{circle, ahead}
+use Rattle.minutes.specs.Quadrant.{circle, ahead}
+use Rattle.steps.specs.Course.{toldOf, Axis, north, east, sineAlong, move, course, courseStep}
 use Rattle.sines.specs.Sine.{entryIn}
-use Rattle.sines.proofs.Own.{Entries, lent-entries, sine-size}
-use Rattle.steps.specs.Course.{Axis, north, east, sineAlong, move, course, courseStep}
+use Rattle.steps.specs.declared.course.Moves.{Moves}
+use Rattle.sines.proofs.Own.{lent-entries, Entries, sine-size}
 use Rattle.steps.specs.Distance.{grid, gridStep}
 use Rattle.steps.proofs.Laws.{product-most}
+use Rattle.steps.proofs.Moving.{move-given}
 use Rattle.desk.specs.Line.{run, preliminary}
 use Rattle.desk.specs.Traverse.{along, longOf, azimuthOf, line, at}
-use Rattle.desk.specs.Inside.{LegSound, Sound, Small, Advanced, Stands, wordAt, Ran}
-use Rattle.desk.specs.declared.Balanced.{Balanced}
+use Rattle.desk.specs.Inside.{withLegs, LegSound, Sound, Small, Slight, Begun, Added, Advanced, Stands, wordAt, Ran}
+use Rattle.desk.specs.Angles.{Balanced}
+use Rattle.desk.specs.declared.Frame.{Frame}
 use Rattle.desk.specs.declared.Sums.{Sums}
 use Rattle.desk.proofs.Pairs.{apart, own, before, behind}
 
@@ -58,18 +59,32 @@ module _ (e : ℕ → ℤ) (entries : Entries e) where
       nearest-most (negℤ (s *ℤ pos distance)) 10000000000 2010000 (omega arith)
       (rw (abs-neg (s *ℤ pos distance), abs-mul s (pos distance)) (omega (arith, product-most (natAbs s) distance 1000000000 20100000 (sine-most axis azimuth turned) near)))
 
--- in a lent table
-module _ (table : List ℕ) (axis : Axis) (distance azimuth : ℕ) (near : distance ≤ 20100000) (turned : azimuth < circle) (r : Amount) (v : ℤ)
-    (g : told r ≡ courseStep (entryIn table) axis distance azimuth) (f : v ≡ told r .value) where
-  pub course-is : v ≡ course (entryIn table) axis distance azimuth
-  course-is = f ∙ value-given (told r) _ _ g (both _ _ (le-leb distance 20100000 near) (lt-ltb azimuth circle turned))
+-- so a move that a lent table gives is slight
+pub course-small : (table : List ℕ) (axis : Axis) (distance azimuth : ℕ) (m : Moves) → distance ≤ 20040020 → azimuth < circle
+    → toldOf axis m ≡ courseStep (entryIn table) axis distance azimuth → Slight (toldOf axis m .value)
+course-small table axis distance azimuth m near turned g =
+    rw (move-given (entryIn table) axis distance azimuth m (omega arith) turned g) (course-most (entryIn table) (lent-entries table) axis distance azimuth (omega arith) turned)
 
-  pub course-small : natAbs v ≤ 2010000
-  course-small = rw course-is (course-most (entryIn table) (lent-entries table) axis distance azimuth near turned)
+pub slight-fits : (v z : ℤ) → v ≡ z → Slight z → natAbs v < 2 ^ 62
+slight-fits v z e h = rw e (omega arith)
+
+pub advanced : (table : List ℕ) (s r : Sums) (m : Moves) (long factor distance azimuth : ℕ) → Added s long (toldOf north m .value) (toldOf east m .value) r → long ≡ grid distance factor
+    → long ≤ 20040020 → azimuth < circle → toldOf north m ≡ courseStep (entryIn table) north long azimuth → toldOf east m ≡ courseStep (entryIn table) east long azimuth
+    → Advanced (entryIn table) s factor distance azimuth r
+advanced table s r m long factor distance azimuth a e near turned n w =
+    rw (← e) (rw (move-given (entryIn table) north long azimuth m (omega arith) turned n, move-given (entryIn table) east long azimuth m (omega arith) turned w) at a)
 
 -- ---- a balanced traverse whose fields are in range
-pub leg-sound : (b : Balanced) → Sound b → (k : ℕ) → k < b .legs → LegSound (b .factor) (getD (b .distances) k 0) (getD (b .azimuths) k 0)
-leg-sound b sound k h = sound .leg k h
+pub leg-sound : (b : Frame) (azimuths distances : List ℕ) (k : ℕ) → Sound (withLegs b azimuths distances) → k < b .legs → LegSound (b .factor) (getD distances k 0) (getD azimuths k 0)
+leg-sound b azimuths distances k sound h = sound .leg k h
+
+-- the lists have a place for every station
+module _ (b : Balanced) (sound : Sound b) (k : ℕ) (h : k < b .legs) where
+  pub spots-room : (l : List ℤ) → 130 ≤ length l → 2 * (k + 1) + 1 < length l
+  spots-room l room = omega (arith, sound .few)
+
+  pub runs-room : (l : List ℕ) → 65 ≤ length l → k + 1 < length l
+  runs-room l room = omega (arith, sound .few)
 
 pub run-most : (b : Balanced) → Sound b → (k : ℕ) → k ≤ b .legs → run (longOf b) k ≤ 20040020 * k
 unfolding run
@@ -106,9 +121,9 @@ module _ (e : ℕ → ℤ) (entries : Entries e) (b : Balanced) (sound : Sound b
 
 -- ---- the sums, a leg at a time
 module _ (e : ℕ → ℤ) (b : Balanced) where
-  pub stands-first : (s : Sums) → s .north .v ≡ pos (b .from .north) → s .east .v ≡ pos (b .from .east) → s .run ≡ 0 → Stands e b 0 s
+  pub stands-first : (s : Sums) → Begun (b .from) s → Stands e b 0 s
   unfolding run preliminary
-  stands-first s n f g = record { north = n; east = f; run = g }
+  stands-first s h = record { north = h .north; east = h .east; run = h .run }
 
   pub stands-next : (k : ℕ) (s r : Sums) → Stands e b k s → Advanced e s (b .factor) (getD (b .distances) k 0) (getD (b .azimuths) k 0) r → Stands e b (k + 1) r
   unfolding run preliminary
@@ -141,16 +156,16 @@ module _ (e : ℕ → ℤ) (b : Balanced) where
               ];
         }
 
-  pub ran-first : (x y : ℤ) (l m : List ℤ) (p q : List ℕ) → 130 ≤ length l → 65 ≤ length p → m ≡ set (set l (2 * 0) x) (2 * 0 + 1) y → q ≡ set p 0 0
-      → x ≡ pos (b .from .north) → y ≡ pos (b .from .east) → Ran e b 0 m q
+  pub ran-first : (s : Sums) (l m : List ℤ) (p q : List ℕ) → 130 ≤ length l → 65 ≤ length p → m ≡ set (set l (2 * 0) (s .north .v)) (2 * 0 + 1) (s .east .v) → q ≡ set p 0 (s .run)
+      → Begun (b .from) s → Ran e b 0 m q
   unfolding run preliminary
-  ran-first x y l m p q room room-run f g is-north is-east =
-      kept 0 x y 0 l m p q (omega arith) (omega arith) f g is-north is-east refl (λ axis j h. absurd (omega arith)) (λ j h. absurd (omega arith))
+  ran-first s l m p q room room-run f g h =
+      kept 0 (s .north .v) (s .east .v) (s .run) l m p q (omega arith) (omega arith) f g (h .north) (h .east) (h .run) (λ axis j i. absurd (omega arith)) (λ j i. absurd (omega arith))
 
-  pub ran-next : (k : ℕ) (s t : Sums) (first l m : List ℤ) (start p q : List ℕ) → m ≡ set (set l (2 * (k + 1)) (t .north .v)) (2 * (k + 1) + 1) (t .east .v)
+  pub ran-next : (k : ℕ) (s t : Sums) (l m : List ℤ) (p q : List ℕ) → m ≡ set (set l (2 * (k + 1)) (t .north .v)) (2 * (k + 1) + 1) (t .east .v)
       → q ≡ set p (k + 1) (t .run) → Ran e b k l p → Stands e b k s → Advanced e s (b .factor) (getD (b .distances) k 0) (getD (b .azimuths) k 0) t
-      → length l ≡ length first → length p ≡ length start → 130 ≤ length first → 65 ≤ length start → Sound b → k < b .legs → Ran e b (k + 1) m q
-  ran-next k s t first l m start p q f g h v a same same-run room room-run sound low =
+      → 130 ≤ length l → 65 ≤ length p → Sound b → k < b .legs → Ran e b (k + 1) m q
+  ran-next k s t l m p q f g h v a room room-run sound low =
       let w = stands-next k s t v a in
       kept (k + 1) (t .north .v) (t .east .v) (t .run) l m p q (omega (arith, sound .few)) (omega (arith, sound .few)) f g (w .north) (w .east) (w .run)
       (λ axis j i. h .spot axis j (omega arith)) (λ j i. h .run j (omega arith))

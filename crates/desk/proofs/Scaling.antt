@@ -16,7 +16,10 @@ use Rattle.whole.proofs.Rounding.{half-up-most}
 use Rattle.answer.specs.declared.Count.{Count}
 use Rattle.answer.specs.Told.{toldCount}
 use Rattle.answer.proofs.Telling.{value-given, both, inside-yes}
+use Rattle.whole.specs.declared.Whole.{Whole}
 use Rattle.steps.specs.Distance.{seaLevel, combine, seaLevelStep, combineStep}
+use Rattle.desk.specs.Inside.{frameOf}
+use Rattle.tape.specs.declared.Control.{Control}
 
 -- a divisor of 20,905,000 to 20,926,000 feet
 quotient-range : (d : ℕ) → 20905000 ≤ d → d ≤ 20926000 → (9990000 ≤ halfUp 209060000000000 d) × (halfUp 209060000000000 d ≤ 10010000)
@@ -67,3 +70,8 @@ module _ (r : Count) (n sea scale : ℕ) (low : 9990000 ≤ sea) (high : sea ≤
 
   pub combined-high : n < 10020011
   combined-high = let m = combined-most sea scale low high least most in rw combined-sum (omega (arith, m .1))
+
+-- ---- the factor in its place
+pub frame-is : (c : Control) (w : Whole) (n : ℕ) → n ≡ combine (seaLevel (c .elevation .v)) (c .scale)
+    → record { legs = c .legs; w = w; factor = n; from = c .from; to = c .to; place = c .place } ≡ frameOf c w
+frame-is c w n e = rw e

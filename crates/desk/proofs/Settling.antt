@@ -15,8 +15,7 @@ use Rattle.whole.proofs.Ring.{ring, exps}
 use Rattle.answer.specs.declared.Amount.{Amount}
 use Rattle.answer.specs.declared.Count.{Count}
 use Rattle.answer.specs.declared.Verdict.{Verdict}
-use Rattle.answer.specs.Told.{toldCount, toldVerdict, passes}
-use Rattle.answer.specs.Told.{told as amount·told}
+use Rattle.answer.specs.Told.{toldCount, toldVerdict, passes, told as amount·told}
 use Rattle.answer.proofs.Telling.{value-given, verdict-given, both, inside-yes, flag-yes}
 use Rattle.steps.specs.Closure.{closes, closureTest, precision, precisionStep}
 use Rattle.steps.specs.Course.{Axis, north, east}
@@ -25,19 +24,18 @@ use Rattle.steps.specs.Share.{share, shareStep}
 use Rattle.desk.specs.Line.{run, preliminary, closure, adjusted}
 use Rattle.desk.specs.Traverse.{along, longOf, line, placed, isLoop, areaOf}
 use Rattle.desk.specs.Answer.{told, refused, northClosure, eastClosure, distanceRun, closesOn, second, secondWords}
-use Rattle.desk.specs.Inside.{Sound, Small, Stands, wordAt, Ran, Left, Near, Shared, putTo}
+use Rattle.desk.specs.Inside.{withLegs, Sound, Small, Stands, wordAt, Left, Closed, Ended, Near, Shared, putTo, Placed}
 use Rattle.whole.specs.declared.Whole.{Whole}
-use Rattle.desk.specs.declared.Answer.{Answer}
 use Rattle.desk.specs.declared.Answer.the-variants.{Adjusted}
 use Rattle.tape.specs.declared.Point.{Point}
-use Rattle.desk.specs.declared.Balanced.{Balanced}
+use Rattle.desk.specs.Angles.{Balanced}
+use Rattle.desk.specs.declared.Frame.{Frame}
 use Rattle.desk.specs.declared.Sums.{Sums}
 use Rattle.steps.proofs.Sharing.{share-most}
 use Rattle.steps.proofs.Laws.{product-most, square-most}
 use Rattle.desk.proofs.Compass.{run-up}
 use Rattle.desk.proofs.Running.{drift, run-most, place-small, stands-small}
-use Rattle.sines.specs.Sine.{Table, entry, entryIn}
-use Rattle.sines.proofs.Own.{Entries, own-entries}
+use Rattle.sines.proofs.Own.{Entries}
 
 -- ---- the steps, whose input is in range
 pub within-is : (r : Verdict) (x : Bool) (n e : ℤ) (s : ℕ) → toldVerdict r ≡ closureTest n e s → passes x ≡ toldVerdict r .value
@@ -129,7 +127,7 @@ module _ (n : ℕ) (spots : List ℤ) (runs : List ℕ) (c : Sums) where
     pub part-fits : getD runs k 0 ≤ c .run
     part-fits = s .part k h
 
-  put-length : (k : ℕ) (l : List ℤ) → length (putTo spots runs c k l) ≡ length l
+  pub put-length : (k : ℕ) (l : List ℤ) → length (putTo spots runs c k l) ≡ length l
   unfolding putTo
   put-length zero l = refl
   put-length (suc k) l = simp length-set (put-length k l)
@@ -146,6 +144,9 @@ module _ (n : ℕ) (spots : List ℤ) (runs : List ℕ) (c : Sums) where
   pub put-last : (k : ℕ) (l m : List ℤ) → k ≤ n + 1 → n < k → m ≡ putTo spots runs c k l → m ≡ putTo spots runs c (n + 1) l
   put-last k l m h i g = let j : k ≡ n + 1 = omega arith in subst (λ (q : ℕ). m ≡ putTo spots runs c q l) j g
 
+pub placed-at : (n : ℕ) (l m : List ℤ) → m ≡ l → Placed n l → Placed n m
+placed-at n l m e p = rw e p
+
 -- ---- the end of the run
 module _ (e : ℕ → ℤ) (entries : Entries e) (b : Balanced) (sound : Sound b) where
   -- a closure is the way from start to end, less that from start to fixed end
@@ -161,94 +162,79 @@ module _ (e : ℕ → ℤ) (entries : Entries e) (b : Balanced) (sound : Sound b
   pub end-small : (end : Sums) → Stands e b (b .legs) end → Small end
   end-small end stands = stands-small e entries b sound (b .legs) end (omega arith) stands
 
-  module _ (end c : Sums) (stands : Stands e b (b .legs) end) (left : Left (b .to) end c) where
-    north-is : c .north .v ≡ northClosure e b
-    north-is = rw (left .north, stands .north)
+  pub closed-at : (end c : Sums) → Stands e b (b .legs) end → Left (b .to) end c → Closed e b c
+  closed-at end c stands left = record { north = rw (left .north, stands .north); east = rw (left .east, stands .east); run = left .run ∙ stands .run }
 
-    east-is : c .east .v ≡ eastClosure e b
-    east-is = rw (left .east, stands .east)
+-- ---- behind it
+module _ (e : ℕ → ℤ) (entries : Entries e) (frame : Frame) (azimuths distances : List ℕ) (spots : List ℤ) (runs : List ℕ) (c : Sums)
+    (h : Ended e (withLegs frame azimuths distances) spots runs c) where
+  abbrev b : Balanced
+  b = withLegs frame azimuths distances
 
-    run-is : c .run ≡ distanceRun b
-    run-is = left .run ∙ stands .run
+  -- what is left is within the ranges of the test
+  pub north-small : natAbs (c .north .v) ≤ 1200000000
+  north-small = rw (h .closed .north) (closure-small e entries b (h .sound) north)
 
-    -- what is left is within the ranges of the test
-    pub north-small : natAbs (c .north .v) ≤ 1200000000
-    north-small = rw north-is (closure-small north)
+  pub east-small : natAbs (c .east .v) ≤ 1200000000
+  east-small = rw (h .closed .east) (closure-small e entries b (h .sound) east)
 
-    pub east-small : natAbs (c .east .v) ≤ 1200000000
-    east-small = rw east-is (closure-small east)
+  pub run-far : 1 ≤ c .run
+  run-far = rw (h .closed .run) (far-run b (h .sound))
 
-    pub run-far : 1 ≤ c .run
-    run-far = rw run-is (far-run b sound)
+  pub run-most-left : c .run ≤ 1300000000
+  run-most-left = rw (h .closed .run) (run-small b (h .sound))
 
-    pub run-most-left : c .run ≤ 1300000000
-    run-most-left = rw run-is (run-small b sound)
+  -- every station's part of the distance run is a part of the whole
+  pub shared : Shared (frame .legs) spots runs c
+  shared =
+      record {
+        few = h .sound .few;
+        room = h .room;
+        room-run = h .room-run;
+        north = λ k i. place-small e entries b (h .sound) north k (wordAt spots (2 * k)) (h .ran .spot north k i) i;
+        east = λ k i. place-small e entries b (h .sound) east k (wordAt spots (2 * k + 1)) (h .ran .spot east k i) i;
+        part = λ k i. rw (h .ran .run k i, h .closed .run) (run-up (longOf b) k (b .legs) i);
+      }
 
-    module _ (spots : List ℤ) (runs : List ℕ) (ran : Ran e b (b .legs) spots runs) where
-      -- every station's part of the distance run is a part of the whole
-      pub shared : 130 ≤ length spots → 65 ≤ length runs → Shared (b .legs) spots runs c
-      shared room room-run =
-          record {
-            few = sound .few;
-            room = room;
-            room-run = room-run;
-            north = λ k h. place-small e entries b sound north k (wordAt spots (2 * k)) (ran .spot north k h) h;
-            east = λ k h. place-small e entries b sound east k (wordAt spots (2 * k + 1)) (ran .spot east k h) h;
-            part = λ k h. rw (ran .run k h, run-is) (run-up (longOf b) k (b .legs) h);
-          }
+  -- and what is put is the adjusted stations
+  adjusted-is : (axis : Axis) (k : ℕ) (p q : ℤ) (x : ℕ) → p ≡ preliminary (line e axis b) k → q ≡ closure (line e axis b) → x ≡ run (longOf b) k
+      → p -ℤ share q x (c .run) ≡ adjusted (line e axis b) k
+  unfolding adjusted
+  adjusted-is axis k p q x f g i = rw (f, g, i, h .closed .run)
 
-      -- and what is put is the adjusted stations
-      adjusted-is : (axis : Axis) (k : ℕ) (p q : ℤ) (x : ℕ) → p ≡ preliminary (line e axis b) k → q ≡ closure (line e axis b) → x ≡ run (longOf b) k
-          → p -ℤ share q x (c .run) ≡ adjusted (line e axis b) k
-      unfolding adjusted
-      adjusted-is axis k p q x f g h = rw (f, g, h, run-is)
+  put-is : (k : ℕ) (l : List ℤ) → k ≤ b .legs + 1 → putTo spots runs c k l ≡ placed e b k l
+  unfolding putTo placed
+  put-is zero l i = refl
+  put-is (suc k) l i =
+      let x = h .ran .run k (omega arith) in
+      rw (put-is k l (omega arith), adjusted-is north k _ _ _ (h .ran .spot north k (omega arith)) (h .closed .north) x, adjusted-is east k _ _ _ (h .ran .spot east k (omega arith)) (h .closed .east) x)
 
-      put-is : (k : ℕ) (l : List ℤ) → k ≤ b .legs + 1 → putTo spots runs c k l ≡ placed e b k l
-      unfolding putTo placed
-      put-is zero l h = refl
-      put-is (suc k) l h =
-          let x = ran .run k (omega arith) in
-          rw (put-is k l (omega arith), adjusted-is north k _ _ _ (ran .spot north k (omega arith)) north-is x, adjusted-is east k _ _ _ (ran .spot east k (omega arith)) east-is x)
+  pub put-all-is : (l m : List ℤ) → m ≡ putTo spots runs c (frame .legs + 1) l → m ≡ placed e b (b .legs + 1) l
+  put-all-is l m g = g ∙ put-is (b .legs + 1) l (omega arith)
 
-      pub put-all-is : (l m : List ℤ) → m ≡ putTo spots runs c (b .legs + 1) l → m ≡ placed e b (b .legs + 1) l
-      put-all-is l m g = g ∙ put-is (b .legs + 1) l (omega arith)
+  -- ---- the answer, by the test
+  module _ (x : Bool) (t : x ≡ closes (c .north .v) (c .east .v) (c .run)) where
+    pub test-is : x ≡ closesOn e b
+    unfolding closesOn
+    test-is = rw (← h .closed .north, ← h .closed .east, ← h .closed .run) t
 
-    -- ---- the answer, by the test
-    module _ (x : Bool) (t : x ≡ closes (c .north .v) (c .east .v) (c .run)) where
-      pub test-is : x ≡ closesOn e b
-      unfolding closesOn
-      test-is = rw (← north-is, ← east-is, ← run-is) t
+    pub near : x ≡ true → Near c
+    near y =
+        record {
+          north = north-near x (c .north .v) (c .east .v) (c .run) t y run-most-left;
+          east = east-near x (c .north .v) (c .east .v) (c .run) t y run-most-left;
+          far = run-far;
+          most = run-most-left;
+        }
 
-      pub near : x ≡ true → Near c
-      near y =
-          record {
-            north = north-near x (c .north .v) (c .east .v) (c .run) t y run-most-left;
-            east = east-near x (c .north .v) (c .east .v) (c .run) t y run-most-left;
-            far = run-far;
-            most = run-most-left;
-          }
+    pub second-far : x ≡ false → refused 9 (frame .place) ≡ second e b
+    unfolding second
+    second-far y = rw (← test-is, y)
 
-      pub second-far : x ≡ false → refused 9 (b .place) ≡ second e b
-      unfolding second
-      second-far y = rw (← test-is, y)
+    pub words-far : (l : List ℤ) → x ≡ false → l ≡ secondWords e b l
+    unfolding secondWords
+    words-far l y = rw (← test-is, y)
 
-      pub words-far : (l : List ℤ) → x ≡ false → l ≡ secondWords e b l
-      unfolding secondWords
-      words-far l y = rw (← test-is, y)
-
-      pub second-near : (p : ℕ) (a : Whole) (o : Bool) → x ≡ true → p ≡ precision (c .north .v) (c .east .v) (c .run) → a .v ≡ areaOf e b → o ≡ isLoop b
-          → told (Adjusted (record { legs = b .legs; w = b .w; north = c .north; east = c .east; precision = p; area = a; looped = o })) ≡ second e b
-      unfolding second
-      second-near p a o y f g h = rw (← test-is, y, ← north-is, ← east-is, ← run-is, ← f, ← g, ← h)
-
-      pub words-near : (spots : List ℤ) (runs : List ℕ) (l m : List ℤ) → Ran e b (b .legs) spots runs → x ≡ true → m ≡ putTo spots runs c (b .legs + 1) l → m ≡ secondWords e b l
-      unfolding secondWords
-      words-near spots runs l m ran y f = rw (← test-is, y) (put-all-is spots runs ran l m f)
-
--- ---- by the desk's own table
-module _ (t : List ℕ) (right : Table t) (b : Balanced) where
-  pub own-second : (r : Answer) → told r ≡ second (entryIn t) b → told r ≡ second entry b
-  own-second r g = g ∙ ap (λ (e : ℕ → ℤ). second e b) (own-entries t right)
-
-  pub own-words : (l m : List ℤ) → m ≡ secondWords (entryIn t) b l → m ≡ secondWords entry b l
-  own-words l m g = g ∙ ap (λ (e : ℕ → ℤ). secondWords e b l) (own-entries t right)
+    pub words-near : (l m : List ℤ) → x ≡ true → m ≡ putTo spots runs c (frame .legs + 1) l → m ≡ secondWords e b l
+    unfolding secondWords
+    words-near l m y f = rw (← test-is, y) (put-all-is l m f)

@@ -9,26 +9,27 @@ use borrow.Author.Tests.{le-leb}
 use lib.Dec.{leb}
 use lib.ListN.{length, getD, length-append}
 use lib.IntN.{ℤ, pos, natAbs, negℤ, _+ℤ_, _-ℤ_}
-use Rattle.whole.specs.declared.Whole.{Whole}
 use Rattle.whole.proofs.Branch.{by-test}
 use Rattle.whole.proofs.Laws.{abs-neg, near-most, triangle}
 use Rattle.whole.proofs.Ring.{ring, exps}
 use Rattle.sines.proofs.Own.{Entries}
 use Rattle.steps.specs.Area.{small, doubled}
-use Rattle.steps.specs.Closure.{closes, precision}
+use Rattle.steps.specs.Closure.{closes}
 use Rattle.steps.specs.Course.{Axis, north, east}
 use Rattle.steps.proofs.Areas.{doubled-most}
 use Rattle.steps.proofs.Sharing.{share-most}
 use Rattle.desk.specs.Line.{run, runAll, preliminary, closure, shareAt, adjusted}
 use Rattle.desk.specs.Traverse.{along, longOf, line, at, placed, offset, offsetsTo, isLoop, areaOf}
-use Rattle.desk.specs.Answer.{told, second}
-use Rattle.desk.specs.Inside.{Sound, Stands, Ran, Left, putTo, takenFrom, Placed}
+use Rattle.desk.specs.Answer.{told, closesOn, second}
+use Rattle.desk.specs.Inside.{withLegs, Sound, Ended, putTo, takenFrom, Placed, Figured}
 use Rattle.desk.specs.declared.Answer.the-variants.{Adjusted}
+use Rattle.desk.specs.declared.Figures.{Figures}
+use Rattle.desk.specs.declared.Frame.{Frame}
 use Rattle.desk.specs.declared.Sums.{Sums}
-use Rattle.desk.specs.declared.Balanced.{Balanced}
+use Rattle.desk.specs.Angles.{Balanced}
 use Rattle.desk.proofs.Compass.{run-up, first-fixed}
 use Rattle.desk.proofs.Running.{drift}
-use Rattle.desk.proofs.Settling.{far-run, placed-length, closes-near, test-is, put-all-is, second-near}
+use Rattle.desk.proofs.Settling.{far-run, placed-length, closes-near, test-is, put-length, put-all-is}
 use Rattle.desk.proofs.Words.{word-at}
 
 -- ---- the range of the area step
@@ -92,10 +93,6 @@ module _ (e : ℕ → ℤ) (entries : Entries e) (b : Balanced) (sound : Sound b
             near = rw (taken-is (b .legs) (omega arith)) (offsets-small (b .legs) (omega arith));
           }
 
-      area-of : (looped : Bool) (a : Whole) → looped ≡ isLoop b → a .v ≡ cond looped (doubled (takenFrom words (b .legs))) (pos 0) → a .v ≡ areaOf e b
-      unfolding areaOf
-      area-of looped a o f = f ∙ rw (o, taken-is (b .legs) (omega arith))
-
     offsets-length : (k : ℕ) → length (offsetsTo e b k) ≡ 2 * k
     unfolding offsetsTo
     offsets-length zero = refl
@@ -108,20 +105,25 @@ module _ (e : ℕ → ℤ) (entries : Entries e) (b : Balanced) (sound : Sound b
         by-test (λ (z : ℤ). natAbs z ≤ 64 * 33800000000000000) (isLoop b)
         (λ t. omega (arith, doubled-most l (offsets-small (b .legs) (omega arith)), offsets-length (b .legs), sound .few)) (λ t. omega arith)
 
--- ---- the second step, once its test is passed and the stations are put
-module _ (e : ℕ → ℤ) (entries : Entries e) (b : Balanced) (sound : Sound b) (end c : Sums) (stands : Stands e b (b .legs) end)
-    (left : Left (b .to) end c) (spots : List ℤ) (runs : List ℕ) (ran : Ran e b (b .legs) spots runs) (x : Bool) (t : x ≡ closes (c .north .v) (c .east .v) (c .run)) (y : x ≡ true)
-    (l words : List ℤ) (room : 130 ≤ length l) (g : words ≡ putTo spots runs c (b .legs + 1) l) where
+-- ---- the second step, once its test is passed
+module _ (e : ℕ → ℤ) (entries : Entries e) (frame : Frame) (azimuths distances : List ℕ) (spots : List ℤ) (runs : List ℕ) (c : Sums) (h : Ended e (withLegs frame azimuths distances) spots runs c)
+    (x : Bool) (t : x ≡ closes (c .north .v) (c .east .v) (c .run)) (y : x ≡ true) (l : List ℤ) where
+  abbrev b : Balanced
+  b = withLegs frame azimuths distances
+
+  passed : x ≡ closesOn e b
+  passed = test-is e entries frame azimuths distances spots runs c h x t
+
   all-near : (axis : Axis) → natAbs (closure (line e axis b)) ≤ 26000
-  all-near axis = closes-near b sound e axis (sym (test-is e entries b sound end c stands left x t) ∙ y)
+  all-near axis = closes-near b (h .sound) e axis (sym passed ∙ y)
 
-  all-placed : words ≡ placed e b (b .legs + 1) l
-  all-placed = put-all-is e entries b sound end c stands left spots runs ran l words g
+  -- the words are those of the adjusted stations, and in the ranges of the area step
+  pub passed-words : 130 ≤ length l → Placed (frame .legs) (putTo spots runs c (frame .legs + 1) l)
+  passed-words room = placed-words e entries b (h .sound) all-near l _ room (put-all-is e entries frame azimuths distances spots runs c h l _ refl)
 
-  pub passed-words : Placed (b .legs) words
-  passed-words = placed-words e entries b sound all-near l words room all-placed
-
-  pub passed-told : (p : ℕ) (a : Whole) (o : Bool) → p ≡ precision (c .north .v) (c .east .v) (c .run) → o ≡ isLoop b
-      → a .v ≡ cond o (doubled (takenFrom words (b .legs))) (pos 0) → told (Adjusted (record { legs = b .legs; w = b .w; north = c .north; east = c .east; precision = p; area = a; looped = o })) ≡ second e b
-  passed-told p a o f h i =
-      second-near e entries b sound end c stands left x t p a o y f (area-of e entries b sound all-near l words room all-placed o a h i) h
+  pub passed-told : (words : List ℤ) (r : Figures) → words ≡ putTo spots runs c (frame .legs + 1) l → Figured frame c words r → told (Adjusted r) ≡ second e b
+  unfolding second areaOf
+  passed-told words r g f =
+      let room : 130 ≤ length l = omega (arith, f .room, ap length g, put-length (frame .legs) spots runs c (frame .legs + 1) l) in
+      let taken = taken-is e entries b (h .sound) all-near l words room (put-all-is e entries frame azimuths distances spots runs c h l words g) (b .legs) (omega arith) in
+      rw (← passed, y, f .legs, f .w, f .north, f .east, f .precise, f .looped, f .area, taken, h .closed .north, h .closed .east, h .closed .run)

@@ -1,56 +1,45 @@
 -- The two steps one after the other. A tape that reads has its fields in range, so no step asks for more than it has, and each way out of the code is
 -- the same way out of the definition.
 use Prim.Native.Nat.{ℕ, _≤_, _<_}
-use native.Mathlib.Omega.{arith}
-use mathlib.Core.Path.{_≡_, refl, sym, _∙_, ap}
-use mathlib.Core.Bool.{Bool, true, false}
-use mathlib.Core.List.{List}
-use borrow.Author.Tests.{lt-ltb, le-ltb, ltb-false}
-use lib.Dec.{ltb}
+use mathlib.Core.Path.{_≡_, refl, sym, _∙_, ap, subst}
+use mathlib.Core.Bool.{true, false}
+use mathlib.Core.List.{List, []}
+use borrow.Author.Tests.{lt-ltb, le-ltb}
 use lib.ListN.{length}
 use lib.IntN.{ℤ, pos, negℤ}
 use lib.Signed.{leZ}
 use Rattle.answer.proofs.Telling.{both}
+use Rattle.minutes.specs.Entry.{entry}
+use Rattle.sines.specs.Sine.{entryIn}
 use Rattle.steps.specs.Azimuth.{closesAngles}
 use Rattle.steps.specs.Course.{Axis, north, east}
-use Rattle.tape.specs.declared.Fields.{Fields}
-use Rattle.tape.specs.declared.Reading.{Reading}
-use Rattle.tape.specs.declared.Reading.the-variants as reading
-use Rattle.tape.specs.declared.State.{State}
-use Rattle.tape.specs.declared.Taken.{Taken}
-use Rattle.tape.specs.Tape.{readingOf}
-use Rattle.tape.specs.Fields.{fieldsOf, takenIf, takenOf, DoesRead}
+use Rattle.tape.specs.Fields.{Fields, fieldsOf, DoesRead, takenOf}
 use Rattle.whole.proofs.Branch.{T-true, by-test}
 use Rattle.tape.proofs.Held.{Ranged, ranged}
+use Rattle.tape.specs.declared.Control.{Control}
+use Rattle.tape.specs.declared.Taken.{Taken}
+use Rattle.tape.specs.declared.Taken.the-variants as taken
 use Rattle.desk.specs.declared.Answer.{Answer}
-use Rattle.desk.specs.declared.Balanced.{Balanced}
-use Rattle.desk.specs.declared.Checked.the-variants.{Refused, Good}
-use Rattle.desk.specs.declared.First.{First}
-use Rattle.desk.specs.Angles.{misclosureOf, balancedTraverse}
-use Rattle.desk.specs.Answer.{told, unbalanced, refusedFirst, checkedAngles, firstIf, firstOf, firstFor, refused, second, secondWords, traversedBy, traversedWordsBy}
+use Rattle.desk.specs.declared.Checked.{Checked}
+use Rattle.desk.specs.declared.Checked.the-variants as checked
+use Rattle.desk.specs.declared.Frame.{Frame}
+use Rattle.desk.specs.Answer.{told, refused, First, stopped, good, checkedAngles, firstOf, firstFor, second, secondWords, afterFirst, wordsAfterFirst, traversedBy, traversedWordsBy}
 use Rattle.desk.specs.Traverse.{along}
-use Rattle.desk.specs.Inside.{Ready, Sound}
+use Rattle.desk.specs.Inside.{Known, Ready, Sound, checkedAs, withLegs}
+use Rattle.tape.proofs.Legs.{took, took-not}
+use Rattle.sines.proofs.Own.{no-entries}
 use Rattle.desk.proofs.Balancing.{sound-of}
-
--- ---- the first step, from the fields
-pub refused-is : (n p : ℕ) (b : Balanced) → b ≡ unbalanced → record { checked = Refused n p; balanced = b } ≡ refusedFirst n p
-refused-is n p b e = rw e
-
-module _ (f : Fields) (x : Bool) (w : ℤ) (t : x ≡ closesAngles w (f .legs)) (e : w ≡ misclosureOf f) where
-  pub checked-good : (b : Balanced) → x ≡ true → b ≡ balancedTraverse f → record { checked = Good; balanced = b } ≡ checkedAngles f
-  unfolding checkedAngles
-  checked-good b h g = rw (← e, ← t, h, g)
-
-  pub checked-bad : (r : First) → x ≡ false → r ≡ refusedFirst 8 (f .place) → r ≡ checkedAngles f
-  unfolding checkedAngles
-  checked-bad r h g = rw (← e, ← t, h) g
 
 -- ---- the fields of a tape that reads
 ready-of : (f : Fields) → Ranged f → Ready f
 ready-of f r =
     let z = f .elevation .v in
     record {
-      turned = record { some = r .legs .0; few = r .legs .1; mark = r .mark; given = r .given; angles = r .angles };
+      some = r .legs .0;
+      few = r .legs .1;
+      mark = r .mark;
+      given = r .given;
+      angles = r .angles;
       elevation = both (leZ (negℤ (pos 1000)) z) (leZ z (pos 20000)) (T-true _ (r .elevation .0 .le)) (T-true _ (r .elevation .1 .le));
       scale-low = r .scale .0;
       scale-high = r .scale .1;
@@ -71,86 +60,74 @@ ready-of f r =
 pub tape-ready : (tape : List ℕ) → DoesRead tape → Ready (fieldsOf tape)
 tape-ready tape r = ready-of (fieldsOf tape) (ranged tape r)
 
--- ---- the first step, from any tape
-module _ (tape : List ℕ) (t : Taken) (e : t ≡ takenOf tape) where
-  -- what was taken, by the reading
-  taken-is : (P : Taken → Type 0) → ((a : State) → readingOf tape ≡ reading.Reads a → P (record { reading = reading.Reads a; fields = fieldsOf tape }))
-      → ((n p : ℕ) → readingOf tape ≡ reading.Refused n p → P (takenIf (reading.Refused n p) (fieldsOf tape))) → P t
-  unfolding takenOf
-  taken-is P f g = rw e (go (readingOf tape) refl)
-    where
-      go : (r : Reading) → readingOf tape ≡ r → P (takenIf r (fieldsOf tape))
-      go (reading.Reads a) h = f a h
-      go (reading.Refused n p) h = g n p h
+-- ---- the two steps of a tape that reads
+-- a first step that does not refuse leaves a traverse in range to the second
+abbrev Leaves : First → Type 0
+Leaves (stopped n p) = n ≡ n
+Leaves (good b) = Sound b
 
-  pub ready : (a : State) → t .reading ≡ reading.Reads a → Ready (t .fields)
-  ready a =
-      taken-is (λ u. u .reading ≡ reading.Reads a → Ready (u .fields)) (λ b h i. tape-ready tape (record { last = b; reads = h }))
-      (λ n p h i. let z : _≡_ {A = ℕ} 0 1 = cc in absurd (omega arith))
+module _ (tape : List ℕ) (r : Checked) (azimuths distances : List ℕ) (f : checkedAs r azimuths distances ≡ checkedAngles (fieldsOf tape)) where
+  -- what was checked, by what it came to
+  by-checked : {A : Type 0} (g : First → A) (x : Checked) → r ≡ x → g (checkedAs x azimuths distances) ≡ g (checkedAngles (fieldsOf tape))
+  by-checked g x h = rw (← h, f)
 
-  pub first-refused : (r : First) (n p : ℕ) → t .reading ≡ reading.Refused n p → r ≡ refusedFirst n p → r ≡ firstOf tape
-  unfolding firstOf
-  first-refused r n p =
-      taken-is (λ u. u .reading ≡ reading.Refused n p → r ≡ refusedFirst n p → r ≡ firstOf tape) (λ b h i j. let z : _≡_ {A = ℕ} 0 1 = cc in absurd (omega arith))
-      (λ m q h i j. j ∙ ap (λ (x : Reading). firstIf x (fieldsOf tape)) (sym (h ∙ i)))
+  pub first-sound : (c : Control) (b : Frame) → Known tape c → r ≡ checked.Good b → Sound (withLegs b azimuths distances)
+  unfolding checkedAngles
+  first-sound c b known h =
+      subst Leaves (sym (by-checked (λ (x : First). x) (checked.Good b) h))
+      (by-test Leaves (closesAngles _ _) (λ t. sound-of (fieldsOf tape) (tape-ready tape (known .reads))) (λ t. refl))
 
-  pub first-reads : (r : First) (a : State) → t .reading ≡ reading.Reads a → r ≡ checkedAngles (t .fields) → r ≡ firstOf tape
-  unfolding firstOf
-  first-reads r a =
-      taken-is (λ u. u .reading ≡ reading.Reads a → r ≡ checkedAngles (u .fields) → r ≡ firstOf tape) (λ b h i j. rw h j)
-      (λ n p h i j. let z : _≡_ {A = ℕ} 0 1 = cc in absurd (omega arith))
+  module _ (e : ℕ → ℤ) where
+    module _ (n p : ℕ) (h : r ≡ checked.Refused n p) where
+      pub stopped-told : refused n p ≡ afterFirst e (checkedAngles (fieldsOf tape))
+      stopped-told = by-checked (afterFirst e) (checked.Refused n p) h
 
--- a step that does not refuse leaves a traverse in range to the next, and has found room
-abbrev Leaves : ℕ → First → Type 0
-Leaves room x = x .checked ≡ Good → Sound (x .balanced) × (130 ≤ room)
+      pub stopped-words : (words : List ℤ) → words ≡ wordsAfterFirst e (checkedAngles (fieldsOf tape)) words
+      stopped-words words = by-checked (λ (x : First). wordsAfterFirst e x words) (checked.Refused n p) h
 
-first-leaves : (tape : List ℕ) (room : ℕ) → Leaves room (firstFor tape room)
-unfolding firstFor firstOf checkedAngles
-first-leaves tape room = by-test (Leaves room) (ltb room 130) (λ few. bad 1 0) (λ wide. go (readingOf tape) refl (ltb-false room 130 wide))
-  where
-    bad : (n p : ℕ) → Leaves room (refusedFirst n p)
-    bad n p h = let z : _≡_ {A = ℕ} 0 1 = cc in absurd (omega arith)
+    module _ (b : Frame) (h : r ≡ checked.Good b) where
+      pub settled-told : (a : Answer) → told a ≡ second e (withLegs b azimuths distances) → told a ≡ afterFirst e (checkedAngles (fieldsOf tape))
+      settled-told a g = g ∙ by-checked (afterFirst e) (checked.Good b) h
 
-    go : (r : Reading) → readingOf tape ≡ r → 130 ≤ room → Leaves room (firstIf r (fieldsOf tape))
-    go (reading.Refused n p) h wide = bad n p
-    go (reading.Reads s) h wide =
-        by-test (Leaves room) (closesAngles _ _) (λ c i. (sound-of (fieldsOf tape) (tape-ready tape (record { last = s; reads = h })), wide)) (λ c. bad _ _)
-
-module _ (tape : List ℕ) (room : ℕ) (a : First) (e : a ≡ firstFor tape room) (h : a .checked ≡ Good) where
-  leaves : Sound (a .balanced) × (130 ≤ room)
-  leaves = rw (← e) at (first-leaves tape room) h
-
-  pub first-sound : Sound (a .balanced)
-  first-sound = leaves .0
-
-  pub first-room : 130 ≤ room
-  first-room = leaves .1
-
--- ---- refusal 1, then the first step
-pub first-short : (tape : List ℕ) (room : ℕ) (r : First) → r ≡ refusedFirst 1 0 → room < 130 → r ≡ firstFor tape room
-unfolding firstFor
-first-short tape room r e few = rw (lt-ltb room 130 few) e
-
-pub first-wide : (tape : List ℕ) (room : ℕ) (r : First) → r ≡ firstOf tape → 130 ≤ room → r ≡ firstFor tape room
-unfolding firstFor
-first-wide tape room r e wide = rw (le-ltb room 130 wide) e
+      pub settled-words : (l words : List ℤ) → l ≡ secondWords e (withLegs b azimuths distances) words → l ≡ wordsAfterFirst e (checkedAngles (fieldsOf tape)) words
+      settled-words l words g = g ∙ by-checked (λ (x : First). wordsAfterFirst e x words) (checked.Good b) h
 
 -- ---- the whole, by any table of sines
-module _ (e : ℕ → ℤ) (tape : List ℕ) (words : List ℤ) (a : First) (f : a ≡ firstFor tape (length words)) where
-  module _ (n p : ℕ) (h : a .checked ≡ Refused n p) where
-    pub refused-told : refused n p ≡ traversedBy e tape (length words)
-    unfolding traversedBy
-    refused-told = rw (← f, h)
+module _ (e : ℕ → ℤ) (tape : List ℕ) (words : List ℤ) where
+  module _ (few : length words < 130) where
+    pub short-told : refused 1 0 ≡ traversedBy e tape (length words)
+    unfolding traversedBy firstFor
+    short-told = rw (lt-ltb (length words) 130 few)
 
-    pub refused-words : words ≡ traversedWordsBy e tape words
-    unfolding traversedWordsBy
-    refused-words = rw (← f, h)
+    pub short-words : words ≡ traversedWordsBy e tape words
+    unfolding traversedWordsBy firstFor
+    short-words = rw (lt-ltb (length words) 130 few)
 
-  module _ (h : a .checked ≡ Good) where
-    pub good-told : (r : Answer) → told r ≡ second e (a .balanced) → told r ≡ traversedBy e tape (length words)
-    unfolding traversedBy
-    good-told r g = rw (← f, h) g
+  module _ (wide : 130 ≤ length words) (t : Taken) (f : t ≡ takenOf tape) where
+    module _ (n p : ℕ) (h : t ≡ taken.Refused n p) where
+      pub refused-told : refused n p ≡ traversedBy e tape (length words)
+      unfolding traversedBy firstFor firstOf
+      refused-told = rw (le-ltb (length words) 130 wide, took-not tape n p (sym f ∙ h))
 
-    pub good-words : (l : List ℤ) → l ≡ secondWords e (a .balanced) words → l ≡ traversedWordsBy e tape words
-    unfolding traversedWordsBy
-    good-words l g = rw (← f, h) g
+      pub refused-words : words ≡ traversedWordsBy e tape words
+      unfolding traversedWordsBy firstFor firstOf
+      refused-words = rw (le-ltb (length words) 130 wide, took-not tape n p (sym f ∙ h))
+
+    module _ (c : Control) (h : t ≡ taken.Reads c) where
+      pub known-is : Known tape c
+      known-is = let k = took tape c (sym f ∙ h) in record { reads = k .0; is = k .1 }
+
+      pub good-told : (r : Answer) → told r ≡ afterFirst e (checkedAngles (fieldsOf tape)) → told r ≡ traversedBy e tape (length words)
+      unfolding traversedBy firstFor firstOf
+      good-told r g = rw (le-ltb (length words) 130 wide, known-is .reads .reads) g
+
+      pub good-words : (l : List ℤ) → l ≡ wordsAfterFirst e (checkedAngles (fieldsOf tape)) words → l ≡ traversedWordsBy e tape words
+      unfolding traversedWordsBy firstFor firstOf
+      good-words l g = rw (le-ltb (length words) 130 wide, known-is .reads .reads) g
+
+-- ---- with no table lent, every entry is the desk's own
+pub own-told : (tape : List ℕ) (room : ℕ) (r : Answer) → told r ≡ traversedBy (entryIn []) tape room → told r ≡ traversedBy entry tape room
+own-told tape room r g = g ∙ ap (λ (e : ℕ → ℤ). traversedBy e tape room) no-entries
+
+pub own-words : (tape : List ℕ) (l words : List ℤ) → l ≡ traversedWordsBy (entryIn []) tape words → l ≡ traversedWordsBy entry tape words
+own-words tape l words g = g ∙ ap (λ (e : ℕ → ℤ). traversedWordsBy e tape words) no-entries

@@ -11,7 +11,7 @@ use Rattle.steps.specs.Course.{Axis, north, east}
 use Rattle.desk.specs.Line.{adjusted}
 use Rattle.desk.specs.Traverse.{along, line, at, placed}
 use Rattle.desk.specs.Inside.{Sound}
-use Rattle.desk.specs.declared.Balanced.{Balanced}
+use Rattle.desk.specs.Angles.{Balanced}
 use Rattle.desk.proofs.Pairs.{apart, own, before, behind}
 use Rattle.desk.proofs.Compass.{first-fixed, last-fixed}
 use Rattle.desk.proofs.Settling.{far-run, placed-length}

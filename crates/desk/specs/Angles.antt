@@ -2,13 +2,15 @@
 -- numbered by the station that they leave, from 0; the angle at the last station is the closing one.
 use Prim.Native.Nat.{ℕ, zero, suc, _+_}
 use mathlib.Core.List.{List}
-use lib.ListN.{getD, set, replicate}
+use lib.ListN.{getD, replicate}
 use lib.IntN.{ℤ}
+use Rattle.whole.specs.Filled.{filled}
 use Rattle.steps.specs.Azimuth.{fromMark, onward, misclosure, balanced}
 use Rattle.steps.specs.Distance.{seaLevel, combine}
 use Rattle.steps.specs.Share.{share}
-use Rattle.tape.specs.declared.Fields.{Fields}
-use Rattle.desk.specs.declared.Balanced.{Balanced}
+use Rattle.tape.specs.Fields.{Fields}
+use Rattle.tape.specs.declared.Point.{Point}
+use Rattle.whole.specs.declared.Whole.{Whole}
 
 abbrev pub angleAt : Fields → ℕ → ℕ
 angleAt f k = getD (f .angles) k 0
@@ -27,16 +29,23 @@ misclosureOf f = misclosure (carried f (f .legs)) (f .given)
 unfoldable pub balancedOf : Fields → ℕ → ℕ
 balancedOf f k = balanced (carried f k) (share (misclosureOf f) (k + 1) (f .legs + 1))
 
--- a list whose first n items are those of a sequence
-unfoldable pub filled : (ℕ → ℕ) → ℕ → List ℕ → List ℕ
-filled g zero l = l
-filled g (suc n) l = set (filled g n l) n (g n)
-
 -- the list before any leg is balanced
 abbrev pub zeros : List ℕ
 zeros = replicate 64 0
 
--- the traverse with its angles balanced; "Combined factor: their sum less 10,000,000", the sea level factor and that of the row
+-- a traverse whose angles are balanced: the misclosure W, the balanced azimuth and the measured distance of each leg, the combined factor, the two fixed
+-- points, and the place of the close
+pub record Balanced : Type 0 where
+  pub legs : ℕ
+  pub w : Whole
+  pub azimuths : List ℕ
+  pub distances : List ℕ
+  pub factor : ℕ
+  pub from : Point
+  pub to : Point
+  pub place : ℕ
+
+-- that of the fields; "Combined factor: their sum less 10,000,000", the sea level factor and that of the row
 unfoldable pub balancedTraverse : Fields → Balanced
 balancedTraverse f =
     record {

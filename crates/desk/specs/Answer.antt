@@ -5,22 +5,17 @@ use Prim.Native.Nat.{ℕ, _+_}
 use lib.Dec.{ltb}
 use lib.ListN.{length}
 use lib.IntN.{ℤ, pos}
-use Rattle.sines.specs.Sine.{entry}
+use Rattle.minutes.specs.Entry.{entry}
 use Rattle.steps.specs.Azimuth.{closesAngles}
 use Rattle.steps.specs.Closure.{closes, precision}
 use Rattle.steps.specs.Course.{north, east}
-use Rattle.tape.specs.declared.Fields.{Fields}
+use Rattle.tape.specs.Fields.{Fields, fieldsOf}
 use Rattle.tape.specs.declared.Reading.{Reading}
 use Rattle.tape.specs.declared.Reading.the-variants as reading
 use Rattle.tape.specs.Tape.{readingOf}
-use Rattle.tape.specs.Fields.{fieldsOf}
-use Rattle.desk.specs.Angles.{misclosureOf, zeros, balancedTraverse}
+use Rattle.desk.specs.Angles.{misclosureOf, Balanced, balancedTraverse}
 use Rattle.desk.specs.Line.{run, closure}
 use Rattle.desk.specs.Traverse.{longOf, line, placed, isLoop, areaOf}
-use Rattle.desk.specs.declared.Balanced.{Balanced}
-use Rattle.desk.specs.declared.First.{First}
-use Rattle.desk.specs.declared.Checked.{Checked}
-use Rattle.desk.specs.declared.Checked.the-variants as checked
 use Rattle.desk.specs.declared.Answer.{Answer}
 use Rattle.desk.specs.declared.Answer.the-variants.{Refused, Adjusted}
 
@@ -56,28 +51,15 @@ told (Adjusted f) =
     }
 
 -- ---- the first step: refusals 2 to 7 of the reading, then "Refused (8) exactly when its size exceeds 100 x (n+1)", at the close
-abbrev pub unbalanced : Balanced
-unbalanced =
-    record {
-      legs = 0;
-      w = record { v = pos 0 };
-      azimuths = zeros;
-      distances = zeros;
-      factor = 0;
-      from = record { north = 0; east = 0 };
-      to = record { north = 0; east = 0 };
-      place = 0;
-    }
-
-abbrev pub refusedFirst : ℕ → ℕ → First
-refusedFirst n p = record { checked = checked.Refused n p; balanced = unbalanced }
+pub data First : Type 0 where
+  stopped : ℕ → ℕ → First
+  good : Balanced → First
 
 unfoldable pub checkedAngles : Fields → First
-checkedAngles f =
-    cond (closesAngles (misclosureOf f) (f .legs)) (record { checked = checked.Good; balanced = balancedTraverse f }) (refusedFirst 8 (f .place))
+checkedAngles f = cond (closesAngles (misclosureOf f) (f .legs)) (good (balancedTraverse f)) (stopped 8 (f .place))
 
 abbrev pub firstIf : Reading → Fields → First
-firstIf (reading.Refused n p) f = refusedFirst n p
+firstIf (reading.Refused n p) f = stopped n p
 firstIf (reading.Reads st) f = checkedAngles f
 
 unfoldable pub firstOf : List ℕ → First
@@ -85,7 +67,7 @@ firstOf tape = firstIf (readingOf tape) (fieldsOf tape)
 
 -- "Refusal 1 is tried first", for under 130 words
 unfoldable pub firstFor : List ℕ → ℕ → First
-firstFor tape room = cond (ltb room 130) (refusedFirst 1 0) (firstOf tape)
+firstFor tape room = cond (ltb room 130) (stopped 1 0) (firstOf tape)
 
 -- ---- the second step, by the entries e of a table of sines: 9 at the close, or the adjusted traverse
 abbrev pub northClosure : (ℕ → ℤ) → Balanced → ℤ
@@ -121,19 +103,19 @@ unfoldable pub secondWords : (ℕ → ℤ) → Balanced → List ℤ → List �
 secondWords e b words = cond (closesOn e b) (placed e b (b .legs + 1) words) words
 
 -- ---- the whole: the first step, then the second
-abbrev pub afterFirst : (ℕ → ℤ) → Checked → Balanced → Told
-afterFirst e (checked.Refused n p) b = refused n p
-afterFirst e checked.Good b = second e b
+abbrev pub afterFirst : (ℕ → ℤ) → First → Told
+afterFirst e (stopped n p) = refused n p
+afterFirst e (good b) = second e b
 
 unfoldable pub traversedBy : (ℕ → ℤ) → List ℕ → ℕ → Told
-traversedBy e tape room = let a = firstFor tape room in afterFirst e (a .checked) (a .balanced)
+traversedBy e tape room = afterFirst e (firstFor tape room)
 
-abbrev pub wordsAfterFirst : (ℕ → ℤ) → Checked → Balanced → List ℤ → List ℤ
-wordsAfterFirst e (checked.Refused n p) b words = words
-wordsAfterFirst e checked.Good b words = secondWords e b words
+abbrev pub wordsAfterFirst : (ℕ → ℤ) → First → List ℤ → List ℤ
+wordsAfterFirst e (stopped n p) words = words
+wordsAfterFirst e (good b) words = secondWords e b words
 
 unfoldable pub traversedWordsBy : (ℕ → ℤ) → List ℕ → List ℤ → List ℤ
-traversedWordsBy e tape words = let a = firstFor tape (length words) in wordsAfterFirst e (a .checked) (a .balanced) words
+traversedWordsBy e tape words = wordsAfterFirst e (firstFor tape (length words)) words
 
 -- ---- the paper's traverse: by the entries of its own table
 abbrev pub traversed : List ℕ → ℕ → Told

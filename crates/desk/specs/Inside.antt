@@ -2,44 +2,91 @@
 -- mention any of it.
 use Prim.Native.Nat.{ℕ, zero, suc, _+_, _*_, _^_, _≤_, _<_}
 use mathlib.Core.Path.{_≡_}
-use mathlib.Core.Bool.{true, _&&_}
+use mathlib.Core.Bool.{true, cond, _&&_}
 use mathlib.Core.List.{List, [], _∷_, _++_}
-use lib.ListN.{length, getD, set, replicate}
+use lib.ListN.{length, getD, set}
 use lib.IntN.{ℤ, pos, negℤ, natAbs, _+ℤ_, _-ℤ_}
 use lib.Signed.{leZ}
-use Rattle.sines.specs.Quadrant.{circle}
-use Rattle.steps.specs.Area.{small as Area·small}
+use Rattle.minutes.specs.Quadrant.{circle}
+use Rattle.steps.specs.Area.{doubled, small as Area·small}
 use Rattle.steps.specs.Course.{Axis, north, east, course}
-use Rattle.steps.specs.Distance.{grid}
+use Rattle.steps.specs.Azimuth.{balanced}
+use Rattle.steps.specs.Closure.{precision}
+use Rattle.steps.specs.Distance.{grid, seaLevel, combine}
 use Rattle.steps.specs.Share.{share}
-use Rattle.desk.specs.Angles.{angleAt, carried, filled}
+use Rattle.whole.specs.Filled.{filled}
+use Rattle.desk.specs.Angles.{angleAt, Balanced}
+use Rattle.desk.specs.Answer.{First, stopped, good, northClosure, eastClosure, distanceRun}
 use Rattle.desk.specs.Line.{run, preliminary}
-use Rattle.desk.specs.Traverse.{along, longOf, azimuthOf, line, at}
-use Rattle.tape.specs.declared.Fields.{Fields}
+use Rattle.desk.specs.Traverse.{along, longOf, azimuthOf, line, at, same}
+use Rattle.tape.specs.Fields.{Fields, fieldsOf, DoesRead, controlOf}
 use Rattle.tape.specs.declared.Point.{Point}
-use Rattle.desk.specs.declared.Balanced.{Balanced}
+use Rattle.whole.specs.declared.Whole.{Whole}
+use Rattle.desk.specs.declared.Frame.{Frame}
+use Rattle.desk.specs.declared.Checked.{Checked}
+use Rattle.desk.specs.declared.Checked.the-variants as checked
+use Rattle.tape.specs.declared.Control.{Control}
+use Rattle.desk.specs.declared.Figures.{Figures}
 use Rattle.desk.specs.declared.Sums.{Sums}
 
--- fields whose angles are within the circle
-pub record Turned (f : Fields) : Type 0 where
+-- what was taken of a tape that reads
+pub record Known (tape : List ℕ) (c : Control) : Type 0 where
+  pub reads : DoesRead tape
+  pub is : c ≡ controlOf (fieldsOf tape)
+
+-- legs and a close that stand on a tape, nine bytes for a leg
+pub record Placeable (c : Control) : Type 0 where
+  pub some : 1 ≤ c .legs
+  pub few : c .legs ≤ 64
+  pub before : 9 * c .legs ≤ c .place
+  pub near : c .place ≤ 4811
+
+abbrev pub distanceAt : Fields → ℕ → ℕ
+distanceAt f k = getD (f .distances) k 0
+
+-- what the combined factor is taken of is in the ranges of the tape
+pub record Scaled (c : Control) : Type 0 where
+  pub elevation : (leZ (negℤ (pos 1000)) (c .elevation .v) && leZ (c .elevation .v) (pos 20000)) ≡ true
+  pub scale : (9990000 ≤ c .scale) × (c .scale ≤ 10010000)
+
+-- the traverse with its angles balanced, but for its legs; and with them
+abbrev pub frameOf : Control → Whole → Frame
+frameOf c w =
+    record { legs = c .legs; w = w; factor = combine (seaLevel (c .elevation .v)) (c .scale); from = c .from; to = c .to; place = c .place }
+
+abbrev pub withLegs : Frame → List ℕ → List ℕ → Balanced
+withLegs b azimuths distances =
+    record { legs = b .legs; w = b .w; azimuths = azimuths; distances = distances; factor = b .factor; from = b .from; to = b .to; place = b .place }
+
+-- what the first step has found, the legs in two lists
+abbrev pub checkedAs : Checked → List ℕ → List ℕ → First
+checkedAs (checked.Refused n p) azimuths distances = stopped n p
+checkedAs (checked.Good b) azimuths distances = good (withLegs b azimuths distances)
+
+-- a list that has an azimuth for each leg
+pub record AllTurned (legs : ℕ) (azimuths : List ℕ) : Type 0 where
+  pub room : legs ≤ length azimuths
+  pub each : (k : ℕ) → k < legs → getD azimuths k 0 < circle
+
+-- the balanced azimuth of leg k, the carried ones in a list; and the list with its first k azimuths balanced
+abbrev pub balancedBy : ℤ → ℕ → List ℕ → ℕ → ℕ
+balancedBy w legs azimuths k = balanced (getD azimuths k 0) (share w (k + 1) (legs + 1))
+
+abbrev pub balancedIn : ℤ → ℕ → ℕ → List ℕ → List ℕ
+balancedIn w legs k azimuths = filled (balancedBy w legs azimuths) k azimuths
+
+-- fields in the ranges of the tape
+pub record Ready (f : Fields) : Type 0 where
   pub some : 1 ≤ f .legs
   pub few : f .legs ≤ 64
   pub mark : f .mark < circle
   pub given : f .given < circle
   pub angles : (k : ℕ) → k ≤ f .legs → angleAt f k < circle
-
--- the azimuths carried to the legs and to the closing mark, as a list of 65
-abbrev pub carriedAll : Fields → List ℕ
-carriedAll f = filled (carried f) (f .legs + 1) (replicate 65 0)
-
--- fields in the ranges of the tape
-pub record Ready (f : Fields) : Type 0 where
-  pub turned : Turned f
   pub elevation : (leZ (negℤ (pos 1000)) (f .elevation .v) && leZ (f .elevation .v) (pos 20000)) ≡ true
   pub scale-low : 9990000 ≤ f .scale
   pub scale-high : f .scale ≤ 10010000
-  pub far : (k : ℕ) → k < f .legs → 1000 ≤ getD (f .distances) k 0
-  pub near : (k : ℕ) → k < f .legs → getD (f .distances) k 0 ≤ 20000000
+  pub far : (k : ℕ) → k < f .legs → 1000 ≤ distanceAt f k
+  pub near : (k : ℕ) → k < f .legs → distanceAt f k ≤ 20000000
   pub from : (axis : Axis) → along axis (f .from) ≤ 1000000000
   pub to : (axis : Axis) → along axis (f .to) ≤ 1000000000
 
@@ -59,11 +106,25 @@ pub record Sound (b : Balanced) : Type 0 where
   pub from : (axis : Axis) → along axis (b .from) ≤ 1000000000
   pub to : (axis : Axis) → along axis (b .to) ≤ 1000000000
 
+-- what is summed before the first leg
+pub record Begun (from : Point) (s : Sums) : Type 0 where
+  pub north : s .north .v ≡ pos (from .north)
+  pub east : s .east .v ≡ pos (from .east)
+  pub run : s .run ≡ 0
+
+-- a move of one leg
+abbrev pub Slight : ℤ → Type 0
+Slight z = natAbs z ≤ 2010000
+
+-- r is s, one leg on, whose distance and moves are these
+pub record Added (s : Sums) (long : ℕ) (n e : ℤ) (r : Sums) : Type 0 where
+  pub north : r .north .v ≡ s .north .v +ℤ n
+  pub east : r .east .v ≡ s .east .v +ℤ e
+  pub run : r .run ≡ s .run + long
+
 -- r is s, one leg on, by the entries e of a table of sines
-pub record Advanced (e : ℕ → ℤ) (s : Sums) (factor distance azimuth : ℕ) (r : Sums) : Type 0 where
-  pub north : r .north .v ≡ s .north .v +ℤ course e north (grid distance factor) azimuth
-  pub east : r .east .v ≡ s .east .v +ℤ course e east (grid distance factor) azimuth
-  pub run : r .run ≡ s .run + grid distance factor
+abbrev pub Advanced : (ℕ → ℤ) → Sums → ℕ → ℕ → ℕ → Sums → Type 0
+Advanced e s factor distance azimuth r = let long = grid distance factor in Added s long (course e north long azimuth) (course e east long azimuth) r
 
 -- sums that leave room for a leg more
 pub record Small (s : Sums) : Type 0 where
@@ -91,6 +152,20 @@ pub record Left (to : Point) (end c : Sums) : Type 0 where
   pub north : c .north .v ≡ end .north .v -ℤ pos (to .north)
   pub east : c .east .v ≡ end .east .v -ℤ pos (to .east)
   pub run : c .run ≡ end .run
+
+-- and that is both closures, and the whole distance
+pub record Closed (e : ℕ → ℤ) (b : Balanced) (c : Sums) : Type 0 where
+  pub north : c .north .v ≡ northClosure e b
+  pub east : c .east .v ≡ eastClosure e b
+  pub run : c .run ≡ distanceRun b
+
+-- the end of the run along a traverse in range, by the entries e: what is kept of every station, and the closures
+pub record Ended (e : ℕ → ℤ) (b : Balanced) (spots : List ℤ) (runs : List ℕ) (c : Sums) : Type 0 where
+  pub sound : Sound b
+  pub room : 130 ≤ length spots
+  pub room-run : 65 ≤ length runs
+  pub ran : Ran e b (b .legs) spots runs
+  pub closed : Closed e b c
 
 -- closures and distance run, within the limit and within the ranges of the share rule
 pub record Near (c : Sums) : Type 0 where
@@ -128,3 +203,14 @@ pub record Placed (n : ℕ) (words : List ℤ) : Type 0 where
   pub north : (k : ℕ) → k < n → natAbs (wordAt words (2 * k)) < 2 ^ 40
   pub east : (k : ℕ) → k < n → natAbs (wordAt words (2 * k + 1)) < 2 ^ 40
   pub near : Area·small (takenFrom words n) ≡ true
+
+-- the figures of a traverse whose closures and words are these
+pub record Figured (b : Frame) (c : Sums) (words : List ℤ) (r : Figures) : Type 0 where
+  pub room : 130 ≤ length words
+  pub legs : r .legs ≡ b .legs
+  pub w : r .w ≡ b .w
+  pub north : r .north ≡ c .north
+  pub east : r .east ≡ c .east
+  pub precise : r .precision ≡ precision (c .north .v) (c .east .v) (c .run)
+  pub looped : r .looped ≡ same (b .from) (b .to)
+  pub area : r .area .v ≡ cond (same (b .from) (b .to)) (doubled (takenFrom words (b .legs))) (pos 0)

@@ -10,7 +10,7 @@ use Rattle.steps.specs.Course.{Axis, north, east, course}
 use Rattle.steps.specs.Distance.{grid}
 use Rattle.desk.specs.Line.{Line, adjusted}
 use Rattle.tape.specs.declared.Point.{Point}
-use Rattle.desk.specs.declared.Balanced.{Balanced}
+use Rattle.desk.specs.Angles.{Balanced}
 
 abbrev pub along : Axis → Point → ℕ
 along north p = p .north
@@ -52,8 +52,11 @@ offsetsTo e b zero = []
 offsetsTo e b (suc k) = offsetsTo e b k ++ (offset e b north k ∷ offset e b east k ∷ [])
 
 -- "for tapes whose two fixed points have equal coordinates: the sum round stations 0 to n-1"; "Otherwise 0 and marked as no loop"
+abbrev pub same : Point → Point → Bool
+same p q = eqb (p .north) (q .north) && eqb (p .east) (q .east)
+
 abbrev pub isLoop : Balanced → Bool
-isLoop b = eqb (b .from .north) (b .to .north) && eqb (b .from .east) (b .to .east)
+isLoop b = same (b .from) (b .to)
 
 unfoldable pub areaOf : (ℕ → ℤ) → Balanced → ℤ
 areaOf e b = cond (isLoop b) (doubled (offsetsTo e b (b .legs))) (pos 0)

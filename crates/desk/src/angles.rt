@@ -1,15 +1,17 @@
 // The angles: azimuths carried along the legs, the misclosure W, and the balanced azimuths.
-use crate::Balanced;
+use crate::Frame;
 use crate::factor;
-use tape::Fields;
+use tape::Control;
 use whole::Whole;
 ghost use mathlib.Core.Path.{_≡_};
 ghost use Prim.Native.Nat.{_+_, _≤_, _<_};
 ghost use lib.IntN.{natAbs};
-ghost use Rattle.steps.specs.Azimuth.{fromMark, onward, closesAngles, balanced};
+ghost use Rattle.steps.specs.Azimuth.{fromMark, onward, misclosure, closesAngles, balanced};
 ghost use Rattle.steps.specs.Share.{share};
-ghost use Rattle.desk.specs.Angles.{misclosureOf, balancedOf, filled, zeros, balancedTraverse};
-ghost use Rattle.desk.specs.Inside.{Turned, Ready, carriedAll};
+ghost use Rattle.tape.specs.Fields.{fieldsOf};
+ghost use Rattle.whole.specs.Filled.{filled};
+ghost use Rattle.desk.specs.Angles.{carried, zeros};
+ghost use Rattle.desk.specs.Inside.{Known, Placeable, Scaled, AllTurned, balancedIn, frameOf};
 
 // The azimuth of leg 1, and of each next leg.
 fn first(mark: u32, angle: u32) -> u32
@@ -28,32 +30,36 @@ fn next(before: u32, angle: u32) -> u32
     steps::azimuth::onward(before, angle).value() as u32
 }
 
-// The azimuth carried to each leg, and behind them the one carried to the closing mark.
-pub fn carry(f: Fields) -> [u32; 65]
-    requires { ⌜ Turned f ⌝ }
-    ensures { λ r. ⌜ r ≡ carriedAll f ⌝ }
+// The azimuth carried to each leg, and its measured distance, into the lent lists; what comes back is the azimuth carried to the closing mark. A leg's
+// record has nine bytes, its angle behind the first and its distance behind that; the closing angle stands likewise in the close.
+pub fn carry(tape: &[u8], c: Control, azimuths: &mut [u32], distances: &mut [u32]) -> u32
+    requires { ⌜ Known (now tape) c ⌝ }
+    requires { ⌜ Placeable c ⌝ }
+    requires { ⌜ (now azimuths ≡ zeros) × (now distances ≡ zeros) ⌝ }
+    ensures closing { λ r. ⌜ r ≡ carried (fieldsOf (now (tape .entry))) (c .legs) ⌝ }
+    ensures azimuths { λ r. ⌜ now (azimuths .exit) ≡ filled (carried (fieldsOf (now (tape .entry)))) (c .legs) zeros ⌝ }
+    ensures distances { λ r. ⌜ now (distances .exit) ≡ fieldsOf (now (tape .entry)) .distances ⌝ }
 {
-    let mut azimuths = [0u32; 65];
-    let mut azimuth = first(f.mark, f.angles[0]);
+    let mut at = c.place - 9 * c.legs;
+    let mut azimuth = first(c.mark, tape::four(tape, at + 1));
     let mut k: usize = 0;
-    while k < f.legs {
+    while k < c.legs {
         azimuths[k] = azimuth;
+        distances[k] = tape::four(tape, at + 5);
+        at = at + 9;
         k = k + 1;
-        azimuth = next(azimuth, f.angles[k]);
+        azimuth = next(azimuth, tape::four(tape, at + 1));
     }
-    azimuths[k] = azimuth;
-    azimuths
+    azimuth
 }
 
 // The misclosure W.
-pub fn misclosure_of(f: Fields, azimuths: [u32; 65]) -> Whole
-    requires { ⌜ Turned f ⌝ }
-    requires { ⌜ azimuths ≡ carriedAll f ⌝ }
-    ensures is { λ r. ⌜ r .v ≡ misclosureOf f ⌝ }
+pub fn misclosure_of(closing: u32, given: u32) -> Whole
+    requires { ⌜ (closing < 12960000) × (given < 12960000) ⌝ }
+    ensures is { λ r. ⌜ r .v ≡ misclosure closing given ⌝ }
     ensures size { λ r. ⌜ natAbs (r .v) ≤ 6480000 ⌝ }
 {
-    let n = f.legs;
-    steps::azimuth::misclosure(azimuths[n], f.given).value()
+    steps::azimuth::misclosure(closing, given).value()
 }
 
 // Whether the misclosure is within its limit.
@@ -76,44 +82,33 @@ fn balanced_leg(azimuth: u32, w: Whole, k: usize, legs: usize) -> u32
     steps::azimuth::balanced(azimuth, part).value() as u32
 }
 
-// The balanced azimuths of all legs.
-pub fn balance(f: Fields, azimuths: [u32; 65], w: Whole) -> [u32; 64]
-    requires { ⌜ Turned f ⌝ }
-    requires { ⌜ azimuths ≡ carriedAll f ⌝ }
-    requires { ⌜ w .v ≡ misclosureOf f ⌝ }
-    requires { ⌜ natAbs (w .v) ≤ 6480000 ⌝ }
-    ensures { λ r. ⌜ r ≡ filled (balancedOf f) (f .legs) zeros ⌝ }
+// The balanced azimuths of all legs, in the place of the carried ones.
+pub fn balance(w: Whole, legs: usize, azimuths: &mut [u32])
+    requires { ⌜ (natAbs (w .v) ≤ 6480000) × (legs ≤ 64) ⌝ }
+    requires { ⌜ AllTurned legs (now azimuths) ⌝ }
+    ensures { λ r. ⌜ now (azimuths .exit) ≡ balancedIn (w .v) legs legs (now (azimuths .entry)) ⌝ }
 {
-    let mut balanced = [0u32; 64];
     let mut k: usize = 0;
-    while k < f.legs {
-        balanced[k] = balanced_leg(azimuths[k], w, k, f.legs);
+    while k < legs {
+        azimuths[k] = balanced_leg(azimuths[k], w, k, legs);
         k = k + 1;
     }
-    balanced
 }
 
-// The traverse with its angles balanced.
-pub fn balanced_traverse(f: Fields, azimuths: [u32; 65], w: Whole) -> Balanced
-    requires { ⌜ Ready f ⌝ }
-    requires { ⌜ azimuths ≡ carriedAll f ⌝ }
-    requires { ⌜ w .v ≡ misclosureOf f ⌝ }
-    requires { ⌜ natAbs (w .v) ≤ 6480000 ⌝ }
-    ensures { λ r. ⌜ r ≡ balancedTraverse f ⌝ }
+// The traverse with its angles balanced, but for its legs.
+pub fn frame(c: Control, w: Whole) -> Frame
+    requires { ⌜ Scaled c ⌝ }
+    ensures { λ r. ⌜ r ≡ frameOf c w ⌝ }
 {
-    let balanced = balance(f, azimuths, w);
-    let factor = factor::combined(f.elevation, f.scale);
-    let distances = f.distances;
-    let from = f.from;
-    let to = f.to;
-    Balanced {
-        legs: f.legs,
+    let factor = factor::combined(c.elevation, c.scale);
+    let from = c.from;
+    let to = c.to;
+    Frame {
+        legs: c.legs,
         w,
-        azimuths: balanced,
-        distances,
         factor,
         from,
         to,
-        place: f.place,
+        place: c.place,
     }
 }

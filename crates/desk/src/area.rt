@@ -1,6 +1,6 @@
 // The doubled area of a loop, from the stations' words.
-use crate::Balanced;
 use crate::places;
+use tape::Point;
 use whole::Whole;
 ghost use mathlib.Core.Path.{_≡_};
 ghost use mathlib.Core.Bool.{cond};
@@ -8,14 +8,14 @@ ghost use Prim.Native.Nat.{_+_, _*_, _≤_, _<_, _^_};
 ghost use lib.ListN.{length, set, take};
 ghost use lib.IntN.{pos, natAbs, _-ℤ_};
 ghost use Rattle.steps.specs.Area.{doubled};
-ghost use Rattle.desk.specs.Traverse.{isLoop};
+ghost use Rattle.desk.specs.Traverse.{same};
 ghost use Rattle.desk.specs.Inside.{wordAt, takenFrom, Placed};
 
 // Whether the two fixed points are the same.
-pub fn is_loop(b: Balanced) -> bool
-    ensures { λ r. ⌜ r ≡ isLoop b ⌝ }
+pub fn is_loop(from: Point, to: Point) -> bool
+    ensures { λ r. ⌜ r ≡ same from to ⌝ }
 {
-    b.from.north == b.to.north && b.from.east == b.to.east
+    from.north == to.north && from.east == to.east
 }
 
 // A word, taken from another.

@@ -1,16 +1,18 @@
 // The run along the legs: each adds its latitude, its departure and its grid distance.
-use crate::Balanced;
+use crate::Frame;
 use crate::Sums;
 use crate::places;
+use steps::course;
+use steps::course::Moves;
+use tape::Point;
 use whole::Whole;
 ghost use mathlib.Core.Path.{_≡_};
 ghost use Prim.Native.Nat.{_+_, _*_, _≤_, _<_};
-ghost use lib.ListN.{length, set};
-ghost use lib.IntN.{natAbs};
-ghost use Rattle.sines.specs.Sine.{entryIn};
-ghost use Rattle.steps.specs.Course.{north, east, course};
+ghost use lib.ListN.{length, getD, set};
+ghost use Rattle.steps.specs.Course.{north, east, toldOf};
 ghost use Rattle.steps.specs.Distance.{grid};
-ghost use Rattle.desk.specs.Inside.{LegSound, Sound, Small, Advanced, Stands, Ran};
+ghost use Rattle.desk.specs.Inside.{withLegs, LegSound, Sound, Small, Slight, Begun, Added, Advanced, Stands, Ran};
+ghost use Rattle.sines.specs.Sine.{entryIn};
 
 fn grid_distance(distance: u32, factor: u32) -> u64
     requires { ⌜ (1000 ≤ distance) × (distance ≤ 20000000) ⌝ }
@@ -21,35 +23,48 @@ fn grid_distance(distance: u32, factor: u32) -> u64
     steps::distance::grid(distance as u64, factor as u64).value()
 }
 
-fn latitude(table: &[u32; 5401], distance: u64, azimuth: u32) -> Whole
-    requires { ⌜ (distance ≤ 20100000) × (azimuth < 12960000) ⌝ }
-    ensures is { λ r. ⌜ r .v ≡ course (entryIn (now (table .entry))) north distance azimuth ⌝ }
-    ensures size { λ r. ⌜ natAbs (r .v) ≤ 2010000 ⌝ }
-{
-    steps::course::latitude_in(table, distance, azimuth).value()
-}
-
-fn departure(table: &[u32; 5401], distance: u64, azimuth: u32) -> Whole
-    requires { ⌜ (distance ≤ 20100000) × (azimuth < 12960000) ⌝ }
-    ensures is { λ r. ⌜ r .v ≡ course (entryIn (now (table .entry))) east distance azimuth ⌝ }
-    ensures size { λ r. ⌜ natAbs (r .v) ≤ 2010000 ⌝ }
-{
-    steps::course::departure_in(table, distance, azimuth).value()
-}
-
-// One leg on.
-fn advance(table: &[u32; 5401], s: Sums, factor: u32, distance: u32, azimuth: u32) -> Sums
-    requires { ⌜ LegSound factor distance azimuth ⌝ }
+// One leg on, whose moves are known.
+fn added(s: Sums, long: u64, moves: Moves) -> Sums
     requires { ⌜ Small s ⌝ }
-    ensures { λ r. ⌜ Advanced (entryIn (now (table .entry))) s factor distance azimuth r ⌝ }
+    requires { ⌜ Slight (toldOf north moves .value) × Slight (toldOf east moves .value) ⌝ }
+    requires { ⌜ long ≤ 20040020 ⌝ }
+    ensures { λ r. ⌜ Added s long (toldOf north moves .value) (toldOf east moves .value) r ⌝ }
 {
-    let long = grid_distance(distance, factor);
-    let north = s.north.plus(latitude(table, long, azimuth));
-    let east = s.east.plus(departure(table, long, azimuth));
+    let north = s.north.plus(moves.north());
+    let east = s.east.plus(moves.east());
     Sums {
         north,
         east,
         run: s.run + long,
+    }
+}
+
+// Leg k on, by the sines of a lent table.
+fn advance(
+    table: &[u32],
+    factor: u32,
+    azimuths: &[u32],
+    distances: &[u32],
+    k: usize,
+    s: Sums,
+) -> Sums
+    requires { ⌜ (k < length (now azimuths)) × (k < length (now distances)) ⌝ }
+    requires { ⌜ LegSound factor (getD (now distances) k 0) (getD (now azimuths) k 0) ⌝ }
+    requires { ⌜ Small s ⌝ }
+    ensures { λ r. ⌜ Advanced (entryIn (now (table .entry))) s factor (getD (now (distances .entry)) k 0) (getD (now (azimuths .entry)) k 0) r ⌝ }
+{
+    let long = grid_distance(distances[k], factor);
+    added(s, long, course::moves_in(table, long, azimuths[k]))
+}
+
+// What is summed before the first leg.
+fn start(from: Point) -> Sums
+    ensures { λ r. ⌜ Begun from r ⌝ }
+{
+    Sums {
+        north: Whole::of_size(from.north as u64),
+        east: Whole::of_size(from.east as u64),
+        run: 0,
     }
 }
 
@@ -66,21 +81,25 @@ fn keep(spots: &mut [i64], runs: &mut [u64], k: usize, s: Sums)
 
 // The run along all legs: what is summed at every station is kept in the lent lists, and what is summed at the last one comes back. Lists are lent, since a
 // list of structures would be copied whole wherever it is handed on.
-pub fn run_all(table: &[u32; 5401], b: Balanced, spots: &mut [i64], runs: &mut [u64]) -> Sums
-    requires { ⌜ Sound b ⌝ }
+pub fn run_all(
+    table: &[u32],
+    b: Frame,
+    azimuths: &[u32],
+    distances: &[u32],
+    spots: &mut [i64],
+    runs: &mut [u64],
+) -> Sums
+    requires { ⌜ Sound (withLegs b (now azimuths) (now distances)) ⌝ }
+    requires { ⌜ (64 ≤ length (now azimuths)) × (64 ≤ length (now distances)) ⌝ }
     requires { ⌜ (130 ≤ length (now spots)) × (65 ≤ length (now runs)) ⌝ }
-    ensures kept { λ r. ⌜ Ran (entryIn (now (table .entry))) b (b .legs) (now (spots .exit)) (now (runs .exit)) ⌝ }
-    ensures end { λ r. ⌜ Stands (entryIn (now (table .entry))) b (b .legs) r ⌝ }
+    ensures kept { λ r. ⌜ Ran (entryIn (now (table .entry))) (withLegs b (now (azimuths .entry)) (now (distances .entry))) (b .legs) (now (spots .exit)) (now (runs .exit)) ⌝ }
+    ensures end { λ r. ⌜ Stands (entryIn (now (table .entry))) (withLegs b (now (azimuths .entry)) (now (distances .entry))) (b .legs) r ⌝ }
 {
-    let mut s = Sums {
-        north: Whole::of_size(b.from.north as u64),
-        east: Whole::of_size(b.from.east as u64),
-        run: 0,
-    };
+    let mut s = start(b.from);
     keep(spots, runs, 0, s);
     let mut k: usize = 0;
     while k < b.legs {
-        s = advance(table, s, b.factor, b.distances[k], b.azimuths[k]);
+        s = advance(table, b.factor, azimuths, distances, k, s);
         k = k + 1;
         keep(spots, runs, k, s);
     }

@@ -1,61 +1,87 @@
 // The second step: from a traverse whose angles are balanced to its closures and its adjusted stations, or refusal 9. No word is written before the
 // test is passed.
 use crate::Answer;
-use crate::Balanced;
 use crate::Figures;
+use crate::Frame;
+use crate::Sums;
 use crate::area;
 use crate::legs;
 use crate::places;
 ghost use mathlib.Core.Path.{_≡_};
-ghost use Prim.Native.Nat.{_≤_};
+ghost use Prim.Native.Nat.{_+_, _≤_};
 ghost use lib.ListN.{length};
-ghost use Rattle.sines.specs.Sine.{entry, entryIn};
 ghost use Rattle.desk.specs.Answer.{told, second, secondWords};
-ghost use Rattle.desk.specs.Inside.{Sound};
+ghost use Rattle.desk.specs.Inside.{withLegs, Sound, Ended, Near, Shared, putTo, Placed, Figured};
+ghost use Rattle.sines.specs.Sine.{entryIn};
 
-// By the sines of a lent table.
-pub fn settle(table: &[u32; 5401], b: Balanced, words: &mut [i64]) -> Answer
-    requires { ⌜ Sound b ⌝ }
+// The closures, by the sines of a lent table, and into the lent lists what is summed at each station.
+fn closures(
+    table: &[u32],
+    b: Frame,
+    azimuths: &[u32],
+    distances: &[u32],
+    spots: &mut [i64],
+    runs: &mut [u64],
+) -> Sums
+    requires { ⌜ Sound (withLegs b (now azimuths) (now distances)) ⌝ }
+    requires { ⌜ (64 ≤ length (now azimuths)) × (64 ≤ length (now distances)) ⌝ }
+    requires { ⌜ (130 ≤ length (now spots)) × (65 ≤ length (now runs)) ⌝ }
+    ensures { λ r. ⌜ Ended (entryIn (now (table .entry))) (withLegs b (now (azimuths .entry)) (now (distances .entry))) (now (spots .exit)) (now (runs .exit)) r ⌝ }
+{
+    let end = legs::run_all(table, b, azimuths, distances, spots, runs);
+    places::closing(b.to, end)
+}
+
+// The adjusted stations into the lent words, and the figures.
+fn adjust_all(b: Frame, c: Sums, spots: &[i64], runs: &[u64], words: &mut [i64]) -> Figures
+    requires { ⌜ Shared (b .legs) (now spots) (now runs) c ⌝ }
+    requires { ⌜ Near c ⌝ }
     requires { ⌜ 130 ≤ length (now words) ⌝ }
-    ensures answer { λ r. ⌜ told r ≡ second (entryIn (now (table .entry))) b ⌝ }
-    ensures words { λ r. ⌜ now (words .exit) ≡ secondWords (entryIn (now (table .entry))) b (now (words .entry)) ⌝ }
+    requires { ⌜ Placed (b .legs) (putTo (now spots) (now runs) c (b .legs + 1) (now words)) ⌝ }
+    ensures words { λ r. ⌜ now (words .exit) ≡ putTo (now (spots .entry)) (now (runs .entry)) c (b .legs + 1) (now (words .entry)) ⌝ }
+    ensures figures { λ r. ⌜ Figured b c (now (words .exit)) r ⌝ }
+{
+    let legs = b.legs;
+    places::put_all(legs, spots, runs, c, words);
+    let looped = area::is_loop(b.from, b.to);
+    let area = area::area(looped, legs, words);
+    let precision = places::precision_of(c);
+    let w = b.w;
+    let north = c.north;
+    let east = c.east;
+    Figures {
+        legs,
+        w,
+        north,
+        east,
+        precision,
+        area,
+        looped,
+    }
+}
+
+// From the azimuths and distances of the legs, by the sines of a lent table.
+pub fn settle(
+    table: &[u32],
+    b: Frame,
+    azimuths: &[u32],
+    distances: &[u32],
+    words: &mut [i64],
+) -> Answer
+    requires { ⌜ Sound (withLegs b (now azimuths) (now distances)) ⌝ }
+    requires { ⌜ (64 ≤ length (now azimuths)) × (64 ≤ length (now distances)) ⌝ }
+    requires { ⌜ 130 ≤ length (now words) ⌝ }
+    ensures answer { λ r. ⌜ told r ≡ second (entryIn (now (table .entry))) (withLegs b (now (azimuths .entry)) (now (distances .entry))) ⌝ }
+    ensures words { λ r. ⌜ now (words .exit) ≡ secondWords (entryIn (now (table .entry))) (withLegs b (now (azimuths .entry)) (now (distances .entry))) (now (words .entry)) ⌝ }
 {
     let mut spots = [0i64; 130];
     let mut runs = [0u64; 65];
-    let end = legs::run_all(table, b, &mut spots, &mut runs);
-    let n = b.legs;
-    let c = places::closing(b.to, end);
+    let c = closures(table, b, azimuths, distances, &mut spots, &mut runs);
     if places::within_limit(c) {
-        places::put_all(n, &spots, &runs, c, words);
-        let precision = places::precision_of(c);
-        let looped = area::is_loop(b);
-        let area = area::area(looped, n, words);
-        let w = b.w;
-        let north = c.north;
-        let east = c.east;
-        return Answer::Adjusted(Figures {
-            legs: n,
-            w,
-            north,
-            east,
-            precision,
-            area,
-            looped,
-        });
+        return Answer::Adjusted(adjust_all(b, c, &spots, &runs, words));
     }
     Answer::Refused {
         number: 9,
         place: b.place,
     }
-}
-
-// By the desk's own table, which is taken once for a traverse.
-pub fn with_table(b: Balanced, words: &mut [i64]) -> Answer
-    requires { ⌜ Sound b ⌝ }
-    requires { ⌜ 130 ≤ length (now words) ⌝ }
-    ensures answer { λ r. ⌜ told r ≡ second entry b ⌝ }
-    ensures words { λ r. ⌜ now (words .exit) ≡ secondWords entry b (now (words .entry)) ⌝ }
-{
-    let own = sines::table();
-    settle(&own, b, words)
 }

@@ -10,7 +10,8 @@ use lib.IntN.{ℤ, pos}
 use Rattle.whole.specs.declared.Whole.{Whole}
 use Rattle.answer.specs.Told.{passes}
 use Rattle.sines.proofs.Own.{Entries, rule-entries, lent-entries}
-use Rattle.sines.specs.Sine.{entry, entryIn}
+use Rattle.minutes.specs.Entry.{entry}
+use Rattle.sines.specs.Sine.{entryIn}
 use Rattle.desk.specs.declared.Answer.{Answer}
 use Rattle.desk.specs.declared.Figures.{Figures}
 use Rattle.desk.specs.declared.Answer.the-variants.{Refused, Adjusted}

@@ -1,7 +1,8 @@
 // The arithmetic steps. A refusal is always 4, at place 0.
 use crate::tell;
 use whole::Whole;
-ghost use Rattle.sines.specs.Sine.{Table, entry, entryIn, sineBy, cosineBy, ofAngle};
+ghost use Rattle.minutes.specs.Entry.{Table, entry};
+ghost use Rattle.sines.specs.Sine.{entryIn, sineBy, cosineBy, ofAngle};
 ghost use Rattle.steps.specs.Area.{areaStep};
 ghost use Rattle.steps.specs.Azimuth.{fromMarkStep, onwardStep, misclosureStep, misclosureTest, balancedStep};
 ghost use Rattle.steps.specs.Closure.{closureTest, precisionStep};

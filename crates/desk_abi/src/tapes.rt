@@ -2,7 +2,8 @@
 use crate::tell;
 ghost use mathlib.Core.Path.{_≡_};
 ghost use lib.ListN.{length};
-ghost use Rattle.sines.specs.Sine.{entry, entryIn};
+ghost use Rattle.minutes.specs.Entry.{entry};
+ghost use Rattle.sines.specs.Sine.{entryIn};
 ghost use Rattle.tape.specs.Tape.{readingOf};
 ghost use Rattle.tape.specs.Tape.{told as Tape·told};
 ghost use Rattle.desk.specs.Answer.{traversed, traversedWords, traversedBy, traversedWordsBy};

@@ -8,7 +8,7 @@ use lib.ListN.{replicate}
 use lib.IntN.{pos}
 use Rattle.tape.specs.Tape.{walk, readingOf, tapeOf}
 use Rattle.desk.specs.Answer.{firstOf, firstFor, traversedBy}
-use Rattle.sines.specs.Sine.{entry}
+use Rattle.minutes.specs.Entry.{entry}
 use Rattle.desk.specs.Answer.{Told as Traversed}
 use Rattle.desk.proofs.Printed.{records, answer, stations, printed-told, printed-words}
 use Rattle.text.specs.Text.{ascii, digits, placesIn, decimal, pointed, sign, amount}

@@ -8,7 +8,7 @@ use borrow.Author.Tests.{lt-ltb, le-ltb}
 use lib.Dec.{eqb}
 use lib.ListN.{length, take, drop, length-append, length-take}
 use lib.IntN.{ℤ}
-use Rattle.sines.specs.Sine.{entry}
+use Rattle.minutes.specs.Entry.{entry}
 use Rattle.desk.specs.Answer.{Told as Traversed}
 use Rattle.desk.proofs.Accepted.{number-most}
 use Rattle.text.specs.Text.{ascii, decimal}

@@ -7,7 +7,7 @@ use lib.Dec.{ltb, eqb}
 use lib.ListN.{length, getD, drop, replicate}
 use lib.IntN.{ℤ, pos}
 use Rattle.steps.specs.Course.{north, east}
-use Rattle.sines.specs.Sine.{entry}
+use Rattle.minutes.specs.Entry.{entry}
 use Rattle.desk.specs.Answer.{traversedBy, traversedWordsBy}
 use Rattle.desk.specs.Answer.{Told as Traversed}
 use Rattle.desk.specs.Traverse.{at}

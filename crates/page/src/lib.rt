@@ -2,7 +2,8 @@
 use desk::Answer;
 ghost use mathlib.Core.Path.{_≡_};
 ghost use lib.ListN.{length};
-ghost use Rattle.sines.specs.Sine.{entry, entryIn};
+ghost use Rattle.minutes.specs.Entry.{entry};
+ghost use Rattle.sines.specs.Sine.{entryIn};
 ghost use Rattle.desk.specs.Answer.{told as Answer·told};
 ghost use Rattle.page.specs.Sheet.{shown, shownBytes, over, Showed, printedIn};
 ghost use Rattle.page.specs.Inside.{Shows};
@@ -27,23 +28,9 @@ fn show(answer: Answer, words: &[i64; 130], out: &mut [u8]) -> Page
     }
 }
 
-// The sheet step: the text of an accepted tape, from the first lent byte. Refusal 1 is tried before all, and no byte is written on a refusal.
-pub fn sheet(tape: &[u8], out: &mut [u8]) -> Page
-    ensures { λ r. ⌜ Showed entry (now (tape .entry)) (now (out .entry)) (now (out .exit)) r ⌝ }
-{
-    if out.len() < 4096 {
-        return Page::Refused {
-            number: 1,
-            place: 0,
-        };
-    }
-    let mut words = [0i64; 130];
-    let answer = desk::traverse(tape, &mut words);
-    show(answer, &words, out)
-}
-
-// The same by the sines of a lent table, whatever it holds.
-pub fn sheet_in(table: &[u32; 5401], tape: &[u8], out: &mut [u8]) -> Page
+// The sheet step by the sines of a lent table, whatever it holds: the text of an accepted tape, from the first lent byte. Refusal 1 is tried before all,
+// and no byte is written on a refusal.
+pub fn sheet_in(table: &[u32], tape: &[u8], out: &mut [u8]) -> Page
     ensures { λ r. ⌜ Showed (entryIn (now (table .entry))) (now (tape .entry)) (now (out .entry)) (now (out .exit)) r ⌝ }
 {
     if out.len() < 4096 {
@@ -55,6 +42,14 @@ pub fn sheet_in(table: &[u32; 5401], tape: &[u8], out: &mut [u8]) -> Page
     let mut words = [0i64; 130];
     let answer = desk::traverse_in(table, tape, &mut words);
     show(answer, &words, out)
+}
+
+// The paper's sheet: no table is lent, so every entry is the desk's own.
+pub fn sheet(tape: &[u8], out: &mut [u8]) -> Page
+    ensures { λ r. ⌜ Showed entry (now (tape .entry)) (now (out .entry)) (now (out .exit)) r ⌝ }
+{
+    let none = [0u32; 0];
+    sheet_in(&none, tape, out)
 }
 
 // What the program prints: the sheet, or the line of a refusal; nothing in bytes that have no room for a sheet.

@@ -13,9 +13,10 @@ use Rattle.whole.specs.Nearest.{nearest}
 use Rattle.whole.proofs.Laws.{abs-neg, abs-sub, abs-mul, triangle, triangle-sub}
 use Rattle.whole.proofs.Ring.{ring, exps}
 use Rattle.whole.proofs.Rounding.{nearest-is}
-use Rattle.sines.specs.Exact.{unity, straight, pi, factorial, weight, series, sinePowers, cosinePowers, bySeries, exactQuarter, exactSine, exactCosine, Within}
-use Rattle.sines.specs.Quadrant.{circle, folded, turned, around, ahead}
-use Rattle.sines.specs.Sine.{entry, between, quarterBy, sineBy, cosineBy, units}
+use Rattle.minutes.specs.Entry.{entry}
+use Rattle.minutes.specs.Exact.{unity, straight, pi, factorial, weight, series, sinePowers, cosinePowers, bySeries, exactQuarter, exactSine, exactCosine, Within}
+use Rattle.minutes.specs.Quadrant.{circle, folded, turned, around, ahead}
+use Rattle.sines.specs.Sine.{between, quarterBy, sineBy, cosineBy, units}
 use Rattle.sines.proofs.Line.{at-minute}
 use Rattle.sines.proofs.Quadrants.{first, folded-most, around-up, around-down}
 use Rattle.sines.proofs.Series.{sine-gentle, cosine-gentle, minute-chord}

@@ -1,10 +1,8 @@
 pub mod Bound
 pub mod Chord
-pub mod Entries
-pub mod Every
 pub mod Line
-pub mod Listed
 pub mod Own
 pub mod Quadrants
 pub mod Series
 pub mod Single
+pub mod Turns

@@ -1,17 +1,18 @@
 -- The four quadrants: where each angle folds to, and what a sine carried round the circle is in each half.
-use mathlib.Core.Path.{_≡_, sym, _∙_, ap}
+use mathlib.Core.Path.{_≡_, refl, sym, _∙_}
+use mathlib.Core.Bool.{Bool, true, false}
 use Prim.Native.Nat.{ℕ, _+_, _-_, _/_, _%_, _≤_, _<_}
-use native.Mathlib.Decide.{decLe}
-use native.Mathlib.Nat.{mod-lt}
+use native.Mathlib.Decide.{decLe, decLt, ℕ-discrete}
 use native.Mathlib.Omega.{arith}
 use borrow.Author.Tests.{le-leb, lt-leb, lt-ltb, le-ltb}
-use lib.IntN.{ℤ, pos, negℤ}
+use lib.Dec.{ltb}
+use lib.IntN.{ℤ, pos, negℤ, natAbs}
 use Rattle.whole.specs.declared.Whole.{Whole}
+use Rattle.whole.proofs.Laws.{abs-neg}
 use Rattle.answer.specs.Told.{told}
-use Rattle.answer.specs.declared.Amount.{Amount}
 use Rattle.answer.specs.declared.Amount.the-variants.{Is, OutOfRange}
 use Rattle.answer.proofs.Telling.{tells, refuses}
-use Rattle.sines.specs.Quadrant.{circle, folded, turned, around}
+use Rattle.minutes.specs.Quadrant.{circle, folded, turned, around, ahead}
 use Rattle.sines.specs.Sine.{between, quarterBy, sineBy, cosineBy, ofAngle}
 use Rattle.sines.proofs.Line.{at-minute}
 
@@ -46,6 +47,11 @@ folded-most a h =
     ]
 
 -- ---- round the circle
+turned-size : (past : Bool) (n : ℕ) → natAbs (turned past (pos n)) ≡ n
+unfolding turned
+turned-size true n = abs-neg (pos n)
+turned-size false n = refl
+
 pub around-up : (f : ℕ → ℤ) (a : ℕ) → a ≤ 6480000 → around f a ≡ f (folded a)
 unfolding around turned
 around-up f a h = rw (le-ltb 6480000 a h)
@@ -54,34 +60,62 @@ pub around-down : (f : ℕ → ℤ) (a : ℕ) → 6480000 < a → around f a ≡
 unfolding around turned
 around-down f a h = rw (lt-ltb 6480000 a h)
 
+-- ---- the cosine: its angle folds to what is left to 90 degrees
+module _ (a : ℕ) (h : a < circle) where
+  pub folded-ahead : folded (ahead a) ≡ 3240000 - folded a
+  folded-ahead =
+      elim (decLe a 3240000) [
+        | yes i ↦ rw (← first a i) (elim (decLe a 0) [ yes z ↦ in-first (omega arith) (omega arith) | no z ↦ sym (second (ahead a) (omega arith) (omega arith)) ∙ (omega arith) ])
+        | no i ↦ elim (decLe a 6480000) [
+          | yes j ↦ rw (← second a (omega arith) j) (sym (third (ahead a) (omega arith) (omega arith)) ∙ (omega arith))
+          | no j ↦ elim (decLe a 9720000) [
+            | yes k ↦ rw (← third a (omega arith) k) (elim (decLe 9720000 a) [ yes z ↦ in-first (omega arith) (omega arith) | no z ↦ sym (fourth (ahead a) (omega arith)) ∙ (omega arith) ])
+            | no k ↦ rw (← fourth a (omega arith)) (in-first (omega arith) (omega arith))
+          ]
+        ]
+      ]
+    where
+      in-first : {x : ℕ} → ahead a ≤ 3240000 → ahead a ≡ x → folded (ahead a) ≡ x
+      in-first i e = sym (first (ahead a) i) ∙ e
+
+  -- and it is negative between 90 degrees and 270
+  pub ahead-up : a ≤ 3240000 → false ≡ ltb 6480000 (ahead a)
+  ahead-up i = sym (le-ltb 6480000 (ahead a) (omega arith))
+
+  pub ahead-down : 3240000 < a → ltb a 9720000 ≡ ltb 6480000 (ahead a)
+  ahead-down i =
+      elim (decLt a 9720000) [
+        | yes j ↦ rw (lt-ltb a 9720000 j, lt-ltb 6480000 (ahead a) (omega arith))
+        | no j ↦ rw (le-ltb a 9720000 (omega arith), le-ltb 6480000 (ahead a) (omega arith))
+      ]
+
 -- ---- by any entries
-module _ (e : ℕ → ℤ) (a : ℕ) where
-  -- at a whole minute any entry may stand for the next
-  any-next : (x f g : ℤ) (r : ℕ) → r ≡ 0 → between x f r ≡ between x g r
-  any-next x f g r h = rw h (at-minute x f ∙ sym (at-minute x g))
+module _ (e : ℕ → ℤ) where
+  -- behind 90 degrees there may be anything: at a whole minute the next entry has no weight
+  pub quarter-is : (a v x y : ℕ) → a ≤ 3240000 → pos v ≡ between (pos x) (pos y) (a % 600) → pos x ≡ e (a / 600) → (a / 600 < 5400 → pos y ≡ e (a / 600 + 1)) → pos v ≡ quarterBy e a
+  unfolding quarterBy
+  quarter-is a v x y h is here next =
+      elim (ℕ-discrete (a % 600) 0) [
+        | yes z ↦ is ∙ rw (here, z) (at-minute (e (a / 600)) (pos y) ∙ sym (at-minute (e (a / 600)) (e (a / 600 + 1))))
+        | no z ↦ is ∙ rw (here, next (omega arith))
+      ]
 
-  module _ (v : ℤ) (n f g : ℕ) (is : v ≡ between (pos f) (pos g) (a % 600)) (here : pos f ≡ e (a / 600)) (next : pos g ≡ e n) where
-    pub on-minute : a % 600 ≡ 0 → v ≡ quarterBy e a
-    unfolding quarterBy
-    on-minute h = is ∙ rw here (any-next (e (a / 600)) (pos g) (e (a / 600 + 1)) (a % 600) h)
+  -- a sine by its size and its half of the circle
+  module _ (a x n : ℕ) (f : x ≡ folded a) (g : pos n ≡ quarterBy e x) where
+    pub sine-is : (past : Bool) → past ≡ ltb 6480000 a → turned past (pos n) ≡ sineBy e a
+    unfolding sineBy around
+    sine-is past p = rw (p, g, f)
 
-    pub off-minute : n ≡ a / 600 + 1 → v ≡ quarterBy e a
-    unfolding quarterBy
-    off-minute h = is ∙ rw (here, next, h)
+    pub size-is : n ≡ natAbs (sineBy e a)
+    size-is = sym (rw (← sine-is (ltb 6480000 a) refl) (turned-size (ltb 6480000 a) n))
 
-  -- ---- what the steps tell
-  pub sine-up : (x : ℕ) (v : Whole) → v .v ≡ quarterBy e x → x ≡ folded a → a < 12960000 → a ≤ 6480000 → told (Is v) ≡ ofAngle a (sineBy e a)
-  unfolding sineBy
-  sine-up x v g f h i = tells _ v _ (lt-ltb a 12960000 h) (g ∙ ap (quarterBy e) f ∙ sym (around-up (quarterBy e) a i))
+  -- what the steps tell
+  pub sine-told : (a x n : ℕ) (v : Whole) → v .v ≡ turned (ltb 6480000 a) (pos n) → pos n ≡ quarterBy e x → x ≡ folded a → a < 12960000 → told (Is v) ≡ ofAngle a (sineBy e a)
+  sine-told a x n v d g f h = tells _ v _ (lt-ltb a 12960000 h) (d ∙ sine-is a x n f g _ refl)
 
-  pub sine-down : (x : ℕ) (q : ℤ) (v : Whole) → v .v ≡ negℤ q → q ≡ quarterBy e x → x ≡ folded a → a < 12960000 → 6480000 < a → told (Is v) ≡ ofAngle a (sineBy e a)
-  unfolding sineBy
-  sine-down x q v d g f h i =
-      tells _ v _ (lt-ltb a 12960000 h) (d ∙ ap negℤ (g ∙ ap (quarterBy e) f) ∙ sym (around-down (quarterBy e) a i))
+  pub cosine-told : (a x n : ℕ) (back : Bool) (v : Whole) → v .v ≡ turned back (pos n) → back ≡ ltb 6480000 (ahead a) → pos n ≡ quarterBy e (3240000 - x) → x ≡ folded a → a < 12960000
+      → told (Is v) ≡ ofAngle a (cosineBy e a)
+  cosine-told a x n back v d p g f h = tells _ v _ (lt-ltb a 12960000 h) (d ∙ sine-is (ahead a) (3240000 - x) n (rw f (sym (folded-ahead a h))) g back p)
 
 pub too-far : (a : ℕ) (z : ℤ) → 12960000 ≤ a → told OutOfRange ≡ ofAngle a z
 too-far a z h = refuses _ z (le-ltb a 12960000 h)
-
--- the angle ahead is one of the circle, so its sine is not refused
-pub cosine-ahead : (e : ℕ → ℤ) (a : ℕ) (r : Amount) → told r ≡ ofAngle ((a + 3240000) % 12960000) (sineBy e ((a + 3240000) % 12960000)) → a < 12960000 → told r ≡ ofAngle a (cosineBy e a)
-cosine-ahead e a r g h = g ∙ rw (lt-ltb ((a + 3240000) % 12960000) 12960000 (mod-lt (a + 3240000) (omega arith)), lt-ltb a 12960000 h)

@@ -10,7 +10,7 @@ use lib.Dec.{lit≤}
 use lib.IntN.{pos, natAbs, _+ℤ_, _-ℤ_, _*ℤ_}
 use Rattle.whole.proofs.Diff.{abs-under}
 use Rattle.whole.proofs.Ring.{ring, exps, reads, diff}
-use Rattle.sines.specs.Exact.{weight, series, sinePowers, cosinePowers, unity, straight, pi, factorial}
+use Rattle.minutes.specs.Exact.{weight, series, sinePowers, cosinePowers, unity, straight, pi, factorial}
 use Rattle.sines.proofs.Chord.{products, slope, curve, above, below}
 
 -- ---- the powers whose terms are added: the first, the third, ..; those of the rest without its first are taken away

@@ -1,20 +1,12 @@
--- Any two outcomes that a promise of this crate allows coincide, for every input.
-use mathlib.Core.Path.{_≡_, sym, _∙_, ap}
-use mathlib.Core.List.{List}
+-- Any two outcomes that a promise of this crate allows coincide, for every input; of `table` see minutes.
+use mathlib.Core.Path.{_≡_, sym, _∙_}
 use Prim.Native.Nat.{ℕ}
-use native.Mathlib.Omega.{arith}
-use lib.Seq.{ext-getD}
-use lib.IntN.{ℤ, natAbs}
+use lib.IntN.{ℤ}
 use Rattle.answer.specs.Told.{told}
 use Rattle.answer.specs.declared.Amount.{Amount}
 use Rattle.answer.proofs.Single.{amounts-coincide}
-use Rattle.sines.specs.Sine.{Table, sineBy, cosineBy, ofAngle}
-
--- `table`
-pub table-single : (t u : List ℕ) → Table t → Table u → t ≡ u
-table-single t u p q =
-    ext-getD 0 t u (p .count ∙ sym (q .count))
-    (λ i h. ap natAbs (p .each i (omega (arith, p .count)) ∙ sym (q .each i (omega (arith, p .count)))))
+use Rattle.sines.specs.Sine.{sineBy, cosineBy, ofAngle, turnedBy}
+use Rattle.sines.specs.declared.Turned.{Turned}
 
 -- `sine` and `cosine`, and with the entries of a lent table `sine_in` and `cosine_in`
 module _ (e : ℕ → ℤ) (a : ℕ) (x y : Amount) where
@@ -23,3 +15,7 @@ module _ (e : ℕ → ℤ) (a : ℕ) (x y : Amount) where
 
   pub cosine-single : told x ≡ ofAngle a (cosineBy e a) → told y ≡ ofAngle a (cosineBy e a) → x ≡ y
   cosine-single = amounts-coincide (ofAngle a (cosineBy e a)) x y
+
+-- `sides_in`
+pub sides-single : (e : ℕ → ℤ) (a : ℕ) (x y : Turned) → x ≡ turnedBy e a → y ≡ turnedBy e a → x ≡ y
+sides-single e a x y p q = p ∙ sym q

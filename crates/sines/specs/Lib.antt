@@ -1,3 +1,1 @@
-pub mod Exact
-pub mod Quadrant
 pub mod Sine

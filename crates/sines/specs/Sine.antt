@@ -1,24 +1,17 @@
--- Paper 01, "Sines": the table of the whole minutes, the interpolation between them, and what the steps answer.
-use mathlib.Core.Path.{_≡_}
+-- Paper 01, "Sines": the interpolation between the entries of the table, and what the steps answer.
 use mathlib.Core.Bool.{cond}
 use mathlib.Core.List.{List}
-use Prim.Native.Nat.{ℕ, _+_, _*_, _/_, _%_, _≤_, min}
-use lib.Dec.{leb, ltb}
+use Prim.Native.Nat.{ℕ, _+_, _/_, _%_, min}
+use lib.Dec.{ltb}
 use lib.ListN.{length, getD}
-use lib.IntN.{ℤ, pos, _+ℤ_, _-ℤ_, _*ℤ_}
+use lib.IntN.{ℤ, pos, natAbs, _+ℤ_, _-ℤ_, _*ℤ_}
 use Rattle.whole.specs.Nearest.{nearest}
 use Rattle.answer.specs.Told.{Told, inRange}
-use Rattle.sines.specs.Exact.{exactSine, unity}
-use Rattle.sines.specs.Quadrant.{circle, around, ahead}
-
--- "the nine-decimal sine of every whole minute .. each the nearest to the exact sine"
-unfoldable pub entry : ℕ → ℤ
-entry m = nearest (pos 1000000000 *ℤ exactSine (600 * m)) unity
-
--- "A table holds the nine-decimal sine of every whole minute from 0 to 90 degrees, 5,401 entries"
-pub record Table (t : List ℕ) : Type 0 where
-  pub count : length t ≡ 5401
-  pub each : (m : ℕ) → m ≤ 5400 → pos (getD t m 0) ≡ entry m
+use Rattle.minutes.specs.Entry.{entry}
+use Rattle.minutes.specs.Quadrant.{circle, around, ahead}
+use Rattle.sines.specs.declared.Sides.{Sides}
+use Rattle.sines.specs.declared.Turned.{Turned}
+use Rattle.sines.specs.declared.Turned.the-variants.{Are, OutOfRange}
 
 -- "entry m plus the nearest whole number to (entry m+1 less entry m) x r / 600"
 unfoldable pub between : ℤ → ℤ → ℕ → ℤ
@@ -35,14 +28,23 @@ sineBy e a = around (quarterBy e) a
 abbrev pub cosineBy : (ℕ → ℤ) → ℕ → ℤ
 cosineBy e a = sineBy e (ahead a)
 
--- the entries of any list that is lent for a table: one above 1 counts as 1, so that no sine is above 1. Behind 90 degrees a table has none and no angle
--- asks for one; the paper's stand there, so that in a table that holds the paper's entries all are the paper's
+-- the entries of any list that is lent for a table: one above 1 counts as 1, so that no sine is above 1, and one that the list does not have is the
+-- paper's. So an empty list stands for the paper's table, and so does a list that holds it
 unfoldable pub entryIn : List ℕ → ℕ → ℤ
-entryIn t m = cond (leb m 5400) (pos (min (getD t m 0) 1000000000)) (entry m)
+entryIn t m = cond (ltb m (length t)) (pos (min (getD t m 0) 1000000000)) (entry m)
 
 -- "An angle of 12,960,000 or more is refused (4)"
 abbrev pub ofAngle : ℕ → ℤ → Told
 ofAngle a z = inRange (ltb a circle) z
+
+-- the sine and the cosine of an angle as sizes, and whether each is negative: which it is by the half of the circle, of an entry 0 too
+unfoldable pub sidesBy : (ℕ → ℤ) → ℕ → Sides
+sidesBy e a =
+    record { sine = natAbs (sineBy e a); past = ltb 6480000 a; cosine = natAbs (cosineBy e a); back = ltb 6480000 (ahead a) }
+
+-- both, or the refusal
+abbrev pub turnedBy : (ℕ → ℤ) → ℕ → Turned
+turnedBy e a = cond (ltb a circle) (Are (sidesBy e a)) OutOfRange
 
 -- "Every sine must be shown within 20 units of the ninth decimal of the exact one"
 abbrev pub units : ℕ

@@ -1,114 +1,186 @@
 // Sines and cosines by the table of whole minutes, in units of the ninth decimal; angles in tenths of a second.
 //
-// A function that indexes or copies the constant lays all 5,401 numbers on the stack: so only `table` does, and whoever wants many sines takes the
-// table once and lends it.
+// An entry of the table costs some instructions, so whoever wants many sines takes the table once and lends it. Any list may be lent: an entry that it does
+// not have is the paper's. Sizes are unsigned, and a sign is put on once.
 use answer::Amount;
+use minutes::Pair;
 use whole::Whole;
 ghost use mathlib.Core.Path.{_≡_};
-ghost use Prim.Native.Nat.{_+_, _/_, _%_, _<_, _≤_, _^_};
+ghost use Prim.Native.Nat.{_+_, _<_, _≤_, _^_, min};
+ghost use lib.Dec.{ltb};
 ghost use lib.IntN.{pos, natAbs};
 ghost use Rattle.answer.specs.Told.{told};
-ghost use Rattle.sines.specs.Quadrant.{folded};
-ghost use Rattle.sines.specs.Sine.{Table, between as Sine·between, entry, quarterBy, entryIn, sineBy, cosineBy, ofAngle};
+ghost use Rattle.minutes.specs.Quadrant.{folded, turned, ahead};
+ghost use Rattle.minutes.specs.Entry.{Table, entry};
+ghost use Rattle.sines.specs.Sine.{between as Sine·between, quarterBy, entryIn, sineBy, cosineBy, ofAngle, turnedBy};
 
-mod minutes;
+// The sine and the cosine of an angle: their sizes, and whether each is negative, the sine past 180 degrees, the cosine between 90 and 270.
+pub struct Sides {
+    pub sine: u32,
+    pub past: bool,
+    pub cosine: u32,
+    pub back: bool,
+}
+
+// Both of an angle, or it was no angle of the circle.
+pub enum Turned {
+    OutOfRange,
+    Are(Sides),
+}
 
 // The table by value.
 pub fn table() -> [u32; 5401]
     ensures { λ r. ⌜ Table r ⌝ }
 {
-    minutes::MINUTES
+    minutes::table()
 }
 
-// r tenths past a minute whose entry is e, where the next one's is f: by a straight line, to the nearest.
-fn between(e: u32, f: u32, r: u32) -> Whole
-    requires { ⌜ r < 600 ⌝ }
-    ensures is { λ v. ⌜ v .v ≡ Sine·between (pos e) (pos f) r ⌝ }
-    ensures size { λ v. ⌜ natAbs (v .v) < 2 ^ 32 ⌝ }
+// What an entry of a lent list counts as.
+fn counted(e: u32) -> u32
+    ensures { λ r. ⌜ r ≡ min e 1000000000 ⌝ }
 {
-    let first = Whole::of_size(e as u64);
-    let rise = Whole::of_size(f as u64).minus(first);
-    first.plus(rise.times(Whole::of_size(r as u64)).nearest(600))
-}
-
-// What an entry of a lent table counts as.
-fn entry_in(table: &[u32; 5401], m: usize) -> u32
-    requires { ⌜ m ≤ 5400 ⌝ }
-    ensures { λ e. ⌜ pos e ≡ entryIn (now (table .entry)) m ⌝ }
-{
-    let e = table[m];
     if 1000000000 < e {
         return 1000000000;
     }
     e
 }
 
-// The sine of an angle of the first quadrant in a lent table. At a whole minute the next entry has no weight, and behind 90 degrees there is none.
-fn quarter_in(table: &[u32; 5401], a: u32) -> Whole
-    requires { ⌜ a ≤ 3240000 ⌝ }
-    ensures is { λ v. ⌜ v .v ≡ quarterBy (entryIn (now (table .entry))) a ⌝ }
-    ensures size { λ v. ⌜ natAbs (v .v) < 2 ^ 32 ⌝ }
+// What the entries of a minute and of the next one count as in a lent list. Behind 90 degrees no angle asks for one with any weight, so only its size is
+// promised.
+fn pair_in(table: &[u32], m: usize) -> Pair
+    requires { ⌜ m ≤ 5400 ⌝ }
+    ensures here { λ p. ⌜ pos (p .e) ≡ entryIn (now (table .entry)) m ⌝ }
+    ensures next { λ p. ⌜ (m < 5400 → pos (p .f) ≡ entryIn (now (table .entry)) (m + 1)) ⌝ }
+    ensures most { λ p. ⌜ (p .e ≤ 1000000000) × (p .f ≤ 1000000000) ⌝ }
 {
-    let m = (a / 600) as usize;
-    let r = a % 600;
-    let next = if r == 0 { m } else { m + 1 };
-    between(entry_in(table, m), entry_in(table, next), r)
+    if m + 1 < table.len() {
+        return Pair {
+            e: counted(table[m]),
+            f: counted(table[m + 1]),
+        };
+    }
+    let own = minutes::pair_at(m);
+    if m < table.len() {
+        return Pair {
+            e: counted(table[m]),
+            f: own.f,
+        };
+    }
+    own
 }
 
-// The angle of the first quadrant whose sine has the same size.
+// r tenths past a minute whose entry is e, where the next one's is f: by a straight line, to the nearest.
+fn between(e: u32, f: u32, r: u32) -> u32
+    requires { ⌜ r < 600 ⌝ }
+    requires { ⌜ (e ≤ 1000000000) × (f ≤ 1000000000) ⌝ }
+    ensures is { λ v. ⌜ pos v ≡ Sine·between (pos e) (pos f) r ⌝ }
+    ensures most { λ v. ⌜ v ≤ 1000000000 ⌝ }
+{
+    if e <= f {
+        return e + whole::half_up((f - e) as u64 * r as u64, 600) as u32;
+    }
+    e - whole::half_up((e - f) as u64 * r as u64, 600) as u32
+}
+
+// The sine of an angle of the first quadrant in a lent list. At a whole minute the next entry has no weight.
+fn quarter_in(table: &[u32], a: u32) -> u32
+    requires { ⌜ a ≤ 3240000 ⌝ }
+    ensures is { λ v. ⌜ pos v ≡ quarterBy (entryIn (now (table .entry))) a ⌝ }
+    ensures most { λ v. ⌜ v ≤ 1000000000 ⌝ }
+{
+    let p = pair_in(table, (a / 600) as usize);
+    between(p.e, p.f, a % 600)
+}
+
+// The angle of the first quadrant whose sine has the same size: past 180 degrees the sizes run as from 0 on, and past 90 they run back.
 fn fold(angle: u32) -> u32
     requires { ⌜ angle < 12960000 ⌝ }
     ensures is { λ r. ⌜ r ≡ folded angle ⌝ }
     ensures most { λ r. ⌜ r ≤ 3240000 ⌝ }
 {
-    if angle <= 3240000 {
-        return angle;
+    let half = if 6480000 < angle {
+        angle - 6480000
+    } else {
+        angle
+    };
+    if half <= 3240000 {
+        return half;
     }
-    if angle <= 6480000 {
-        return 6480000 - angle;
-    }
-    if angle <= 9720000 {
-        return angle - 6480000;
-    }
-    12960000 - angle
+    6480000 - half
 }
 
-// The sine of an angle in a lent table, whatever the table holds.
-pub fn sine_in(table: &[u32; 5401], angle: u32) -> Amount
+// Whether the cosine is negative.
+fn behind(angle: u32) -> bool
+    requires { ⌜ angle < 12960000 ⌝ }
+    ensures { λ r. ⌜ r ≡ ltb 6480000 (ahead angle) ⌝ }
+{
+    if angle <= 3240000 {
+        return false;
+    }
+    angle < 9720000
+}
+
+// A size with its sign.
+fn signed(size: u32, negative: bool) -> Whole
+    ensures is { λ v. ⌜ v .v ≡ turned negative (pos size) ⌝ }
+    ensures size { λ v. ⌜ natAbs (v .v) ≡ size ⌝ }
+{
+    let v = Whole::of_size(size as u64);
+    if negative {
+        return v.opposite();
+    }
+    v
+}
+
+// The sine and the cosine of an angle in a lent list, whatever the list holds. The angle is folded once: the cosine's is what is left to 90 degrees.
+pub fn sides_in(table: &[u32], angle: u32) -> Turned
+    ensures { λ r. ⌜ r ≡ turnedBy (entryIn (now (table .entry))) angle ⌝ }
+{
+    if 12960000 <= angle {
+        return Turned::OutOfRange;
+    }
+    let a = fold(angle);
+    Turned::Are(Sides {
+        sine: quarter_in(table, a),
+        past: 6480000 < angle,
+        cosine: quarter_in(table, 3240000 - a),
+        back: behind(angle),
+    })
+}
+
+// The sine of an angle in a lent list.
+pub fn sine_in(table: &[u32], angle: u32) -> Amount
     ensures is { λ r. ⌜ told r ≡ ofAngle angle (sineBy (entryIn (now (table .entry))) angle) ⌝ }
     ensures size { λ r. ⌜ natAbs (told r .value) < 2 ^ 32 ⌝ }
 {
     if 12960000 <= angle {
         return Amount::OutOfRange;
     }
-    let s = quarter_in(table, fold(angle));
-    if 6480000 < angle {
-        return Amount::Is(s.opposite());
-    }
-    Amount::Is(s)
+    Amount::Is(signed(quarter_in(table, fold(angle)), 6480000 < angle))
 }
 
 // The cosine is the sine of the angle plus 90 degrees.
-pub fn cosine_in(table: &[u32; 5401], angle: u32) -> Amount
+pub fn cosine_in(table: &[u32], angle: u32) -> Amount
     ensures is { λ r. ⌜ told r ≡ ofAngle angle (cosineBy (entryIn (now (table .entry))) angle) ⌝ }
     ensures size { λ r. ⌜ natAbs (told r .value) < 2 ^ 32 ⌝ }
 {
     if 12960000 <= angle {
         return Amount::OutOfRange;
     }
-    sine_in(table, (angle + 3240000) % 12960000)
+    Amount::Is(signed(quarter_in(table, 3240000 - fold(angle)), behind(angle)))
 }
 
+// An empty list has none of the entries, so all are the paper's.
 pub fn sine(angle: u32) -> Amount
     ensures { λ r. ⌜ told r ≡ ofAngle angle (sineBy entry angle) ⌝ }
 {
-    let own = table();
-    sine_in(&own, angle)
+    let none = [0u32; 0];
+    sine_in(&none, angle)
 }
 
 pub fn cosine(angle: u32) -> Amount
     ensures { λ r. ⌜ told r ≡ ofAngle angle (cosineBy entry angle) ⌝ }
 {
-    let own = table();
-    cosine_in(&own, angle)
+    let none = [0u32; 0];
+    cosine_in(&none, angle)
 }

@@ -1,23 +1,48 @@
 -- The sum round the stations: the tests of the offsets, the size of a cross product and of the sum, and the sum as the loop builds it.
-use mathlib.Core.Path.{_≡_, refl, sym, _∙_, ap}
-use mathlib.Core.Bool.{Bool, true, false, _&&_}
+use mathlib.Core.Path.{_≡_, refl, sym, _∙_, ap, subst}
+use mathlib.Core.Bool.{Bool, true, false, _&&_, and-assoc}
 use mathlib.Core.List.{List, [], _∷_}
 use Prim.Native.Nat.{ℕ, zero, suc, _+_, _*_, _/_, _%_, _≤_, _<_}
 use native.Mathlib.Nat.{le-of-suc-le-suc, not-suc-le-zero, mod-lt, mod-self, mod-eq-of-lt}
 use native.Mathlib.Numerals.{add-one}
 use native.Mathlib.Omega.{arith}
-use borrow.Author.Tests.{le-leb, lt-leb, leb-true}
-use lib.Dec.{leb}
+use borrow.Author.Tests.{le-leb, lt-leb, leb-true, ltb-true, ltb-false}
+use lib.Dec.{T, leb}
 use lib.ListN.{length, getD, drop, drop-of-length-le}
 use lib.Seq.{drop-cons}
-use lib.IntN.{ℤ, pos, natAbs, _+ℤ_, _-ℤ_, _*ℤ_}
+use lib.IntN.{ℤ, pos, negsuc, natAbs, _+ℤ_, _-ℤ_, _*ℤ_}
+use lib.Signed.{ltZ}
 use Rattle.whole.proofs.Laws.{abs-mul, triangle-sub}
 use Rattle.whole.proofs.Sums.{sumTo-size}
 use Rattle.whole.specs.Sum.{sumTo}
 use Rattle.steps.specs.Area.{northing, easting, stations, cross, nextStation, doubledTo, doubled, small}
 use Rattle.steps.proofs.Laws.{product-most}
 
--- ---- the test of the offsets, from the i-th on
+-- ---- the test of an offset: by what lies below the range, and what lies above it
+pub too-low : (z : ℤ) (b : Bool) → b ≡ ltZ z (negsuc 129999999) → b ≡ true → false ≡ leb (natAbs z) 130000000
+too-low (pos n) b e t = absurd (subst T (sym t ∙ e) tt)
+too-low (negsuc n) b e t = sym (lt-leb (suc n) 130000000 (omega (arith, ltb-true 129999999 n (sym e ∙ t))))
+
+pub too-high : (z : ℤ) (b : Bool) → b ≡ ltZ (pos 130000000) z → b ≡ true → false ≡ leb (natAbs z) 130000000
+too-high (pos n) b e t = sym (lt-leb n 130000000 (ltb-true 130000000 n (sym e ∙ t)))
+too-high (negsuc n) b e t = absurd (subst T (sym t ∙ e) tt)
+
+pub within-both : (z : ℤ) (a b : Bool) → a ≡ ltZ z (negsuc 129999999) → a ≡ false → b ≡ ltZ (pos 130000000) z → b ≡ false → true ≡ leb (natAbs z) 130000000
+within-both (pos n) a b d s e t = sym (le-leb n 130000000 (ltb-false 130000000 n (sym e ∙ t)))
+within-both (negsuc n) a b d s e t = sym (le-leb (suc n) 130000000 (omega (arith, ltb-false 129999999 n (sym d ∙ s))))
+
+-- of a station's two: z is the first, a and b say of each whether it is in range
+abbrev bothSmall : List ℤ → ℕ → Bool
+bothSmall l i = leb (natAbs (northing l i)) 130000000 && leb (natAbs (easting l i)) 130000000
+
+module _ (l : List ℤ) (i : ℕ) (z : ℤ) (a : Bool) (g : z ≡ northing l i) (f : a ≡ leb (natAbs z) 130000000) where
+  pub near-second : (y : ℤ) (b : Bool) → y ≡ easting l i → b ≡ leb (natAbs y) 130000000 → a ≡ true → b ≡ bothSmall l i
+  near-second y b k e t = e ∙ rw (← g, ← k, ← f, t)
+
+  pub near-first : a ≡ false → a ≡ bothSmall l i
+  near-first t = t ∙ rw (← g, ← f, t)
+
+-- ---- the test of the offsets, from the i-th station on
 and-true : (a b : Bool) → (a && b) ≡ true → (a ≡ true) × (b ≡ true)
 and-true true b e = (refl, e)
 and-true false b e = absurd (let z : _≡_ {A = ℕ} 0 1 = cc in omega arith)
@@ -28,20 +53,29 @@ small-at [] i e h = absurd (not-suc-le-zero h)
 small-at (z ∷ l) zero e h = leb-true (natAbs z) 130000000 (and-true (leb (natAbs z) 130000000) (small l) e .0)
 small-at (z ∷ l) (suc i) e h = small-at l i (and-true (leb (natAbs z) 130000000) (small l) e .1) (le-of-suc-le-suc h)
 
-module _ (l : List ℤ) (i n : ℕ) (z : ℤ) (f : n ≡ natAbs z) (g : z ≡ getD l i (pos 0)) (h : i < length l) (e : small (drop i l) ≡ small l) where
-  here : small l ≡ (leb (natAbs z) 130000000 && small (drop (i + 1) l))
-  unfolding small
-  here = sym e ∙ rw (drop-cons l i (pos 0) h, add-one i, ← g)
-
-  pub small-next : n ≤ 130000000 → small (drop (i + 1) l) ≡ small l
-  small-next k = sym (here ∙ rw (le-leb (natAbs z) 130000000 (omega arith)))
-
-  pub small-stop : 130000000 < n → false ≡ small l
-  small-stop k = sym (here ∙ rw (lt-leb (natAbs z) 130000000 (omega arith)))
-
-pub small-end : (l : List ℤ) (i : ℕ) → length l ≤ i → small (drop i l) ≡ small l → true ≡ small l
+small-from : (l : List ℤ) (k : ℕ) → k < length l → small (drop k l) ≡ (leb (natAbs (getD l k (pos 0))) 130000000 && small (drop (k + 1) l))
 unfolding small
-small-end l i h e = sym (ap small (drop-of-length-le l h)) ∙ e
+small-from l k h = rw (drop-cons l k (pos 0) h, add-one k)
+
+-- b says whether both offsets of the i-th of n stations are in range
+module _ (l : List ℤ) (i n : ℕ) (b : Bool) (f : b ≡ bothSmall l i) (g : 2 * n ≡ length l) (h : i < n) (e : small (drop (2 * i) l) ≡ small l) where
+  here : small l ≡ (b && small (drop (2 * (i + 1)) l))
+  here =
+      let k : 2 * i + 1 + 1 ≡ 2 * (i + 1) = omega arith in
+      let first = leb (natAbs (northing l i)) 130000000 in
+      let second = leb (natAbs (easting l i)) 130000000 in
+      sym e ∙ small-from l (2 * i) (omega arith) ∙ ap (λ (s : Bool). first && s) (small-from l (2 * i + 1) (omega arith))
+      ∙ sym (and-assoc first second (small (drop (2 * i + 1 + 1) l))) ∙ rw (f, k)
+
+  pub small-next : b ≡ true → small (drop (2 * (i + 1)) l) ≡ small l
+  small-next k = sym (here ∙ rw k)
+
+  pub small-stop : b ≡ false → false ≡ small l
+  small-stop k = sym (here ∙ rw k)
+
+pub small-end : (l : List ℤ) (i n : ℕ) → 2 * n ≡ length l → n ≤ i → small (drop (2 * i) l) ≡ small l → true ≡ small l
+unfolding small
+small-end l i n g h e = let k : length l ≤ 2 * i = omega arith in sym (ap small (drop-of-length-le l k)) ∙ e
 
 -- ---- the size of a cross product
 pub cross-size : (n : ℕ) (p q a b c d : ℤ) → n ≤ natAbs p + natAbs q → p ≡ a *ℤ b → q ≡ c *ℤ d → natAbs a ≤ 130000000 → natAbs b ≤ 130000000 → natAbs c ≤ 130000000 → natAbs d ≤ 130000000 → n ≤ 33800000000000000

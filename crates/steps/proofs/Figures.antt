@@ -7,9 +7,10 @@ use lib.IntN.{ℤ, pos, negℤ}
 use Rattle.whole.specs.Nearest.{nearest}
 use Rattle.whole.specs.Sum.{sumTo}
 use Rattle.answer.specs.Told.{Told, given, inside}
-use Rattle.sines.specs.Exact.{exactSine, exactQuarter, bySeries, series, weight, unity, straight, pi, factorial}
-use Rattle.sines.specs.Quadrant.{around, turned, folded}
-use Rattle.sines.specs.Sine.{entry, between, quarterBy, sineBy, ofAngle}
+use Rattle.minutes.specs.Entry.{entry}
+use Rattle.minutes.specs.Exact.{exactSine, exactQuarter, bySeries, series, weight, unity, straight, pi, factorial}
+use Rattle.minutes.specs.Quadrant.{around, turned, folded}
+use Rattle.sines.specs.Sine.{between, quarterBy, sineBy, ofAngle}
 use Rattle.steps.specs.Distance.{seaLevel, combine, grid, seaLevelStep, combineStep}
 use Rattle.steps.specs.Azimuth.{turn, misclosure, closesAngles, misclosureStep, misclosureTest}
 use Rattle.steps.specs.Share.{share, shareStep}

@@ -1,8 +1,8 @@
--- The whole root and the precision number: the definitions have the properties that name them, nothing else has, and the code's halving finds the root.
+-- The whole root and the precision number: the definitions have the properties that name them, nothing else has, and the code finds the root by Newton's rule.
 use mathlib.Core.Path.{_≡_, refl, sym, _∙_}
 use mathlib.Core.Bool.{true, false, cond}
 use Prim.Native.Nat.{ℕ, zero, suc, _+_, _-_, _*_, _/_, _^_, _≤_, _<_}
-use native.Mathlib.Nat.{lt-of-le-of-lt, lt-of-lt-of-le, le-div-iff-mul-le, div-lt-iff-lt-mul, div-le-self, le-antisymm, pow-succ'}
+use native.Mathlib.Nat.{lt-of-le-of-lt, le-div-iff-mul-le, div-lt-iff-lt-mul, lt-div-mul-add, div-le-self, le-dest, le-antisymm, pow-succ'}
 use native.Mathlib.Decide.{decLe, ℕ-discrete}
 use native.Mathlib.Omega.{arith}
 use borrow.Author.Tests.{le-leb, lt-leb, eq-eqb, ne-eqb}
@@ -10,7 +10,7 @@ use lib.Dec.{leb, lit<}
 use lib.IntN.{ℤ, natAbs}
 use mir.Syntax.{w64}
 use mir.Val.{Fits}
-use Rattle.steps.proofs.Laws.{product-most, square-most}
+use Rattle.steps.proofs.Laws.{product-most}
 use Rattle.steps.specs.Closure.{squares, closes, Precision, root, precision}
 
 -- r is the whole root of x
@@ -40,19 +40,28 @@ root-is (suc k) x h = next (root k (x / 4)) x (root-is k (x / 4) (omega (arith, 
           | no i ↦ rw (lt-leb ((2 * r + 1) * (2 * r + 1)) x (omega arith)) (omega arith, omega arith)
         ]
 
--- ---- the code's halving: x is below the square of r + width, and the next r is q
-module _ (x r half width q : ℕ) where
-  pub taken-low : q ≡ r + half → (r + half) * (r + half) ≤ x → q * q ≤ x
-  taken-low e h = rw e h
+-- ---- Newton's rule: from a number above the root to one that is less, and no less than the root
+products-most : (a b : ℕ) → 2 * (a * b) ≤ a * a + b * b
+products-most a b =
+    elim (decLe a b) [
+      | yes h ↦ let d = le-dest h in rw (← d .1) (omega arith)
+      | no h ↦ let d = le-dest {n = b} {m = a} (omega arith) in rw (← d .1) (omega arith)
+    ]
 
-  pub taken-high : q ≡ r + half → half ≤ width → x < (r + width) * (r + width) → x < (q + (width - half)) * (q + (width - half))
-  taken-high e h i = let f : q + (width - half) ≡ r + width = omega arith in rw f i
+pub some-square : (x r : ℕ) → x < r * r → 0 < r
+some-square x zero h = absurd (omega arith)
+some-square x (suc r) h = omega arith
 
-  pub left-low : q ≡ r → r * r ≤ x → q * q ≤ x
-  left-low e h = rw e h
+module _ (x r : ℕ) (h : x < r * r) where
+  pub quotient-below : x / r < r
+  quotient-below = div-lt-iff-lt-mul (some-square x r h) .1 h
 
-  pub left-high : q ≡ r → half ≤ width - half → x < (r + half) * (r + half) → x < (q + (width - half)) * (q + (width - half))
-  left-high e h i = lt-of-lt-of-le i (product-most (r + half) (r + half) (q + (width - half)) (q + (width - half)) (omega arith) (omega arith))
+  -- 4 x is below 4 r (x / r + 1), which is at most the square of r + (x / r + 1)
+  pub mean-above : x < ((r + x / r) / 2 + 1) * ((r + x / r) / 2 + 1)
+  mean-above =
+      let q = x / r in
+      let m = (r + q) / 2 + 1 in
+      omega (arith, lt-div-mul-add {a = x} {b = r} (some-square x r h), products-most r (q + 1), product-most (r + (q + 1)) (r + (q + 1)) (2 * m) (2 * m) (omega arith) (omega arith))
 
 -- ---- the precision number
 -- what the paper asks of P, with q for the sum of the closures' squares
@@ -91,9 +100,30 @@ precision-most north east s h =
     ]
 
 -- ---- as the code has them
-pub quotient-small : (s both : ℕ) → s ≤ 1300000000 → (both ≡ 0 → ⊥) → s * s / (100 * both) < 2 ^ 54
-quotient-small s both h z =
-    div-lt-iff-lt-mul {k = 100 * both} (omega arith) .1 (omega (arith, square-most s h, product-most (2 ^ 54) 100 (2 ^ 54) (100 * both) (omega arith) (omega arith)))
+-- ten times the closure, or a number near it that is no more
+abbrev Ten : ℕ → ℕ → ℕ → Type 0
+Ten n e d = (n * n + e * e ≤ d * d) × (d * d ≤ 100 * (n * n + e * e))
+
+pub ten-longer : (l s : ℕ) → s ≤ l → Ten l s (10 * l)
+ten-longer l s h = (omega (arith, product-most s s l l h h), omega arith)
+
+pub eight-and-six : (l s : ℕ) → Ten l s (8 * l + 6 * s)
+eight-and-six l s = (omega arith, omega (arith, products-most (6 * l) (8 * s)))
+
+-- so S over it is not below the root, and no more than S
+pub start-small : (s d : ℕ) → s ≤ 1300000000 → s / d ≤ 1300000000
+start-small s d h = omega (arith, div-le-self s d)
+
+module _ (n e both s d : ℕ) (b : both ≡ n * n + e * e) (z : both ≡ 0 → ⊥) (low : n * n + e * e ≤ d * d) where
+  pub some-closures : 0 < d
+  some-closures = some-square 0 d (omega arith)
+
+  pub start-above : d * d ≤ 100 * (n * n + e * e) → s * s / (100 * both) < (s / d + 1) * (s / d + 1)
+  start-above high =
+      let q = s / d + 1 in
+      let t = lt-div-mul-add {a = s} {b = d} some-closures in
+      div-lt-iff-lt-mul {k = 100 * both} (omega arith) .1
+      (omega (arith, product-most (s + 1) (s + 1) (q * d) (q * d) (omega arith) (omega arith), product-most (q * q) (d * d) (q * q) (100 * both) (omega arith) (omega arith)))
 
 module _ (north east : ℤ) (n e both s : ℕ) (f : n ≡ natAbs north) (g : e ≡ natAbs east) (b : both ≡ n * n + e * e) where
   both-is : both ≡ squares north east

@@ -1,16 +1,19 @@
 -- The laws of the share rule. Nothing is shared at no part and all of it at the whole, shares grow with the part, and so the shares of successive
 -- parts add up to the total: the customer's hundredth.
-use mathlib.Core.Path.{_≡_, _∙_, ap}
-use Prim.Native.Nat.{ℕ, suc, _≤_, _<_}
-use native.Mathlib.Nat.{mul-le-mul-left}
+use mathlib.Core.Path.{_≡_, sym, _∙_, ap}
+use mathlib.Core.Bool.{Bool, true, false}
+use Prim.Native.Nat.{ℕ, suc, _*_, _≤_, _<_}
+use native.Mathlib.Nat.{mul-comm, mul-le-mul-left}
 use native.Mathlib.Omega.{arith}
-use lib.IntN.{ℤ, pos, natAbs, _-ℤ_, _*ℤ_, *ℤ-zero, *ℤ-comm, +ℤ-idr}
+use lib.IntN.{ℤ, pos, negℤ, natAbs, _-ℤ_, _*ℤ_, *ℤ-zero, +ℤ-idr}
+use lib.Signed.{ltZ}
 use Rattle.whole.specs.Order.{_≤ᶻ_}
-use Rattle.whole.specs.Nearest.{nearest}
+use Rattle.whole.specs.Nearest.{nearest, halfUp}
 use Rattle.whole.specs.Sum.{sumTo}
 use Rattle.whole.proofs.Diff.{→le}
 use Rattle.whole.proofs.Laws.{abs-mul, mul-mono}
-use Rattle.whole.proofs.Rounding.{nearest-zero, nearest-multiple, nearest-mono, nearest-most}
+use Rattle.whole.proofs.Machine.{sign-below, sign-above}
+use Rattle.whole.proofs.Rounding.{nearest-zero, nearest-multiple, nearest-mono, nearest-most, nearest-neg}
 use Rattle.whole.proofs.Sums.{telescope}
 use Rattle.steps.specs.Share.{share}
 
@@ -42,7 +45,14 @@ module _ (total : ℤ) (whole : ℕ) (some : 0 < whole) where
   shares-add-up part n first last =
       telescope (λ (k : ℕ). share total (part k) whole) n ∙ rw (first, last, share-none, share-all) (+ℤ-idr total)
 
--- ---- as the code computes it, the part first
-pub share-is : (v q p : ℤ) (total : ℤ) (part whole : ℕ) → v ≡ nearest q whole → q ≡ p *ℤ total → p ≡ pos part → v ≡ share total part whole
-unfolding share
-share-is v q p total part whole e f g = e ∙ ap (λ (z : ℤ). nearest z whole) (f ∙ rw g (*ℤ-comm (pos part) total))
+-- ---- as the code computes it: m is the share of the total's size n, and b says whether the total is below zero
+module _ (total q : ℤ) (b : Bool) (part whole m n : ℕ) (e : q ≡ pos m) (f : m ≡ halfUp (part * n) whole) (g : n ≡ natAbs total) (h : b ≡ ltZ total (pos 0)) where
+  pub share-above : b ≡ false → q ≡ share total part whole
+  unfolding share nearest
+  share-above i = let s = sign-above total (sym h ∙ i) in e ∙ rw (f, g, s .1, mul-comm part (s .0))
+
+  pub share-below : (r : ℤ) → 0 < whole → r ≡ negℤ q → b ≡ true → r ≡ share total part whole
+  unfolding share nearest
+  share-below r some j i =
+      let s = sign-below total (sym h ∙ i) in
+      j ∙ ap negℤ e ∙ rw (f, g, s .1, mul-comm part (suc (s .0))) (sym (nearest-neg (pos (suc (s .0) * part)) whole some))

@@ -1,9 +1,10 @@
 -- Any two outcomes that a promise of this crate allows coincide, for every input: what is told determines the answer.
-use mathlib.Core.Path.{_≡_}
+use mathlib.Core.Path.{_≡_, refl, sym, _∙_, ap}
 use mathlib.Core.List.{List}
 use Prim.Native.Nat.{ℕ}
+use native.Mathlib.Omega.{arith}
 use lib.IntN.{ℤ}
-use Rattle.answer.specs.Told.{told, toldCount, toldVerdict}
+use Rattle.answer.specs.Told.{Told, told, toldCount, toldVerdict}
 use Rattle.answer.specs.declared.Amount.{Amount}
 use Rattle.answer.specs.declared.Count.{Count}
 use Rattle.answer.specs.declared.Verdict.{Verdict}
@@ -11,7 +12,9 @@ use Rattle.answer.proofs.Single.{amounts-coincide, counts-coincide, verdicts-co
 use Rattle.steps.specs.Distance.{seaLevelStep, combineStep, gridStep}
 use Rattle.steps.specs.Azimuth.{fromMarkStep, onwardStep, misclosureStep, misclosureTest, balancedStep}
 use Rattle.steps.specs.Share.{shareStep, angleShareStep}
-use Rattle.steps.specs.Course.{Axis, courseStep}
+use Rattle.steps.specs.Course.{Axis, north as Axis·north, east as Axis·east, courseStep, toldOf}
+use Rattle.steps.specs.declared.course.Moves.{Moves}
+use Rattle.steps.specs.declared.course.Moves.the-variants.{Are, OutOfRange}
 use Rattle.steps.specs.Closure.{closureTest, precisionStep}
 use Rattle.steps.specs.Area.{areaStep}
 
@@ -54,6 +57,19 @@ module _ (x y : Amount) where
 
   pub doubled-area-single : (offsets : List ℤ) → told x ≡ areaStep offsets → told y ≡ areaStep offsets → x ≡ y
   doubled-area-single offsets = amounts-coincide (areaStep offsets) x y
+
+-- `moves_in`: what is told along both axes
+pub moves-single : (e : ℕ → ℤ) (distance azimuth : ℕ) (x y : Moves) → ((axis : Axis) → toldOf axis x ≡ courseStep e axis distance azimuth)
+    → ((axis : Axis) → toldOf axis y ≡ courseStep e axis distance azimuth) → x ≡ y
+unfolding toldOf
+moves-single e distance azimuth x y p q = one-moves x y (λ axis. p axis ∙ sym (q axis))
+  where
+    one-moves : (x y : Moves) → ((axis : Axis) → toldOf axis x ≡ toldOf axis y) → x ≡ y
+    one-moves OutOfRange OutOfRange p = refl
+    one-moves OutOfRange (Are k l) p = absurd (omega (arith, ap (λ (z : Told). z .number) (p Axis·north)))
+    one-moves (Are m n) OutOfRange p = absurd (omega (arith, ap (λ (z : Told). z .number) (p Axis·north)))
+    one-moves (Are m n) (Are k l) p =
+        ap (λ (v : ℤ). Are (record { v = v }) n) (ap (λ (z : Told). z .value) (p Axis·north)) ∙ ap (λ (v : ℤ). Are k (record { v = v })) (ap (λ (z : Told). z .value) (p Axis·east))
 
 module _ (x y : Verdict) where
   pub closes-angles-single : (w : ℤ) (n : ℕ) → toldVerdict x ≡ misclosureTest w n → toldVerdict y ≡ misclosureTest w n → x ≡ y

@@ -12,7 +12,7 @@ use lib.Signed.{ltZ}
 use Rattle.whole.specs.Order.{_≤ᶻ_, _<ᶻ_}
 use Rattle.whole.proofs.Diff.{vars, ints, same, eq, under, below, le, lt}
 use Rattle.whole.proofs.Machine.{sign-below, sign-above}
-use Rattle.sines.specs.Quadrant.{circle}
+use Rattle.minutes.specs.Quadrant.{circle}
 use Rattle.steps.specs.Azimuth.{halfCircle, Modulo, turn, Misclosure, nearHalf, misclosure, balanced}
 
 -- ---- modulo the circle

@@ -6,7 +6,7 @@ use lib.Dec.{leb, ltb}
 use lib.IntN.{ℤ, pos, negsuc, negℤ, natAbs, _+ℤ_, _-ℤ_, _*ℤ_}
 use Rattle.whole.specs.Order.{_≤ᶻ_, _<ᶻ_}
 use Rattle.answer.specs.Told.{Told, inRange, inside, passes}
-use Rattle.sines.specs.Quadrant.{circle}
+use Rattle.minutes.specs.Quadrant.{circle}
 
 abbrev pub halfCircle : ℕ
 halfCircle = 6480000

@@ -4,9 +4,11 @@ use Prim.Native.Nat.{ℕ}
 use lib.Dec.{leb, ltb}
 use lib.IntN.{ℤ, pos, negℤ, _*ℤ_}
 use Rattle.whole.specs.Nearest.{nearest}
-use Rattle.answer.specs.Told.{Told, inRange}
-use Rattle.sines.specs.Quadrant.{circle}
+use Rattle.answer.specs.Told.{Told, given, refused, inRange}
+use Rattle.minutes.specs.Quadrant.{circle}
 use Rattle.sines.specs.Sine.{sineBy, cosineBy}
+use Rattle.steps.specs.declared.course.Moves.{Moves}
+use Rattle.steps.specs.declared.course.Moves.the-variants.{Are, OutOfRange}
 
 -- northing and easting differ in the sine that counts
 pub data Axis : Type 0 where
@@ -31,3 +33,9 @@ ofLeg distance azimuth z = inRange (leb distance 20100000 && ltb azimuth circle)
 
 abbrev pub courseStep : (ℕ → ℤ) → Axis → ℕ → ℕ → Told
 courseStep e axis distance azimuth = ofLeg distance azimuth (course e axis distance azimuth)
+
+-- ---- both moves of a leg at once: what is told along each axis
+unfoldable pub toldOf : Axis → Moves → Told
+toldOf axis OutOfRange = refused 4 0
+toldOf north (Are n e) = given (n .v)
+toldOf east (Are n e) = given (e .v)

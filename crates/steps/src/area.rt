@@ -2,12 +2,13 @@
 use answer::Amount;
 use whole::Whole;
 ghost use mathlib.Core.Path.{_≡_};
-ghost use mathlib.Core.Bool.{true};
+ghost use mathlib.Core.Bool.{true, _&&_};
 ghost use Prim.Native.Nat.{_+_, _*_, _%_, _<_, _≤_};
+ghost use lib.Dec.{leb};
 ghost use lib.ListN.{length, getD};
 ghost use lib.IntN.{pos, natAbs};
 ghost use Rattle.answer.specs.Told.{told};
-ghost use Rattle.steps.specs.Area.{areaStep, cross as Area·cross, doubled, small};
+ghost use Rattle.steps.specs.Area.{northing, easting, areaStep, cross as Area·cross, doubled, small};
 
 fn word(offsets: &[i64], at: usize) -> Whole
     requires { ⌜ at < length (now offsets) ⌝ }
@@ -16,13 +17,37 @@ fn word(offsets: &[i64], at: usize) -> Whole
     Whole { v: offsets[at] }
 }
 
-// Whether every offset is within its range.
-fn all_small(offsets: &[i64]) -> bool
+// Whether an offset is within its range: by two comparisons, which cost less than its size.
+fn within(z: Whole) -> bool
+    ensures { λ r. ⌜ r ≡ leb (natAbs (z .v)) 130000000 ⌝ }
+{
+    let least = Whole { v: -130000000 };
+    let most = Whole { v: 130000000 };
+    if z.less(least) {
+        return false;
+    }
+    if most.less(z) {
+        return false;
+    }
+    true
+}
+
+// Whether both offsets of station i are within their range.
+fn near(offsets: &[i64], i: usize) -> bool
+    requires { ⌜ 2 * i + 1 < length (now offsets) ⌝ }
+    ensures { λ r. ⌜ r ≡ (leb (natAbs (northing (now (offsets .entry)) i)) 130000000 && leb (natAbs (easting (now (offsets .entry)) i)) 130000000) ⌝ }
+{
+    within(word(offsets, 2 * i)) && within(word(offsets, 2 * i + 1))
+}
+
+// Whether every offset of n stations is within its range.
+fn all_small(offsets: &[i64], n: usize) -> bool
+    requires { ⌜ 2 * n ≡ length (now offsets) ⌝ }
     ensures { λ r. ⌜ r ≡ small (now (offsets .entry)) ⌝ }
 {
     let mut i: usize = 0;
-    while i < offsets.len() {
-        if 130000000 < word(offsets, i).size() {
+    while i < n {
+        if !near(offsets, i) {
             return false;
         }
         i += 1;
@@ -92,8 +117,9 @@ pub fn doubled_area(offsets: &[i64]) -> Amount
     if words % 2 != 0 {
         return Amount::OutOfRange;
     }
-    if all_small(offsets) {
-        return Amount::Is(round(offsets, words / 2));
+    let n = words / 2;
+    if all_small(offsets, n) {
+        return Amount::Is(round(offsets, n));
     }
     Amount::OutOfRange
 }

@@ -1,62 +1,103 @@
 // Latitude and departure: how far a leg moves north and east, in hundredths of a foot. Azimuths run from south, hence the minus signs.
 use answer::Amount;
+use sines::Turned;
 use whole::Whole;
 ghost use mathlib.Core.Path.{_≡_};
-ghost use Prim.Native.Nat.{_≤_, _<_, _^_};
-ghost use lib.IntN.{natAbs};
+ghost use Prim.Native.Nat.{_≤_};
+ghost use lib.IntN.{pos};
 ghost use Rattle.answer.specs.Told.{told};
-ghost use Rattle.steps.specs.Course.{north, east, move as Course·move, courseStep};
-ghost use Rattle.sines.specs.Sine.{entry, entryIn};
+ghost use Rattle.minutes.specs.Quadrant.{turned};
+ghost use Rattle.minutes.specs.Entry.{entry};
+ghost use Rattle.sines.specs.Sine.{entryIn};
+ghost use Rattle.steps.specs.Course.{north as Course·north, east as Course·east, move as Course·move, courseStep, toldOf};
 
-// How far a distance moves along an axis, by the sine that counts there.
-fn move_by(distance: u64, sine: Whole) -> Whole
+// Both moves of a leg, or its input was out of the range stated with the step.
+pub enum Moves {
+    OutOfRange,
+    Are { north: Whole, east: Whole },
+}
+
+// The move that is told along an axis, which is zero on a refusal: for a caller whose leg is in range.
+impl Moves {
+    pub fn north(self) -> Whole
+        ensures { λ r. ⌜ r .v ≡ toldOf Course·north self .value ⌝ }
+    {
+        match self {
+            Moves::OutOfRange => Whole { v: 0 },
+            Moves::Are { north, east: _ } => north,
+        }
+    }
+
+    pub fn east(self) -> Whole
+        ensures { λ r. ⌜ r .v ≡ toldOf Course·east self .value ⌝ }
+    {
+        match self {
+            Moves::OutOfRange => Whole { v: 0 },
+            Moves::Are { north: _, east } => east,
+        }
+    }
+}
+
+// How far a distance moves along an axis, by the size of the sine that counts there and its sign: the size is rounded, and the opposite sign put on.
+fn move_by(distance: u64, size: u32, negative: bool) -> Whole
     requires { ⌜ distance ≤ 20100000 ⌝ }
-    requires { ⌜ natAbs (sine .v) < 2 ^ 32 ⌝ }
-    ensures { λ r. ⌜ r .v ≡ Course·move distance (sine .v) ⌝ }
+    requires { ⌜ size ≤ 1000000000 ⌝ }
+    ensures { λ r. ⌜ r .v ≡ Course·move distance (turned negative (pos size)) ⌝ }
 {
-    sine.times(Whole::of_size(distance))
-        .opposite()
-        .nearest(10000000000)
+    let moved = Whole::of_size(whole::half_up(distance * size as u64, 10000000000));
+    if negative {
+        return moved;
+    }
+    moved.opposite()
 }
 
-// The latitude of a leg, by the cosine in a lent table.
-pub fn latitude_in(table: &[u32; 5401], distance: u64, azimuth: u32) -> Amount
-    ensures { λ r. ⌜ told r ≡ courseStep (entryIn (now (table .entry))) north distance azimuth ⌝ }
-{
-    if 20100000 < distance {
-        return Amount::OutOfRange;
-    }
-    if 12960000 <= azimuth {
-        return Amount::OutOfRange;
-    }
-    let cosine = sines::cosine_in(table, azimuth).value();
-    Amount::Is(move_by(distance, cosine))
-}
-
-// The departure of a leg, by the sine in a lent table.
-pub fn departure_in(table: &[u32; 5401], distance: u64, azimuth: u32) -> Amount
-    ensures { λ r. ⌜ told r ≡ courseStep (entryIn (now (table .entry))) east distance azimuth ⌝ }
+// The latitude of a leg by the cosine in a lent list, and its departure by the sine.
+pub fn moves_in(table: &[u32], distance: u64, azimuth: u32) -> Moves
+    ensures is_north { λ r. ⌜ toldOf Course·north r ≡ courseStep (entryIn (now (table .entry))) Course·north distance azimuth ⌝ }
+    ensures is_east { λ r. ⌜ toldOf Course·east r ≡ courseStep (entryIn (now (table .entry))) Course·east distance azimuth ⌝ }
 {
     if 20100000 < distance {
-        return Amount::OutOfRange;
+        return Moves::OutOfRange;
     }
-    if 12960000 <= azimuth {
-        return Amount::OutOfRange;
+    match sines::sides_in(table, azimuth) {
+        Turned::OutOfRange => Moves::OutOfRange,
+        Turned::Are(s) => Moves::Are {
+            north: move_by(distance, s.cosine, s.back),
+            east: move_by(distance, s.sine, s.past),
+        },
     }
-    let sine = sines::sine_in(table, azimuth).value();
-    Amount::Is(move_by(distance, sine))
 }
 
+// One of them.
+pub fn latitude_in(table: &[u32], distance: u64, azimuth: u32) -> Amount
+    ensures { λ r. ⌜ told r ≡ courseStep (entryIn (now (table .entry))) Course·north distance azimuth ⌝ }
+{
+    match moves_in(table, distance, azimuth) {
+        Moves::OutOfRange => Amount::OutOfRange,
+        Moves::Are { north, east: _ } => Amount::Is(north),
+    }
+}
+
+pub fn departure_in(table: &[u32], distance: u64, azimuth: u32) -> Amount
+    ensures { λ r. ⌜ told r ≡ courseStep (entryIn (now (table .entry))) Course·east distance azimuth ⌝ }
+{
+    match moves_in(table, distance, azimuth) {
+        Moves::OutOfRange => Amount::OutOfRange,
+        Moves::Are { north: _, east } => Amount::Is(east),
+    }
+}
+
+// By the paper's entries, which an empty list leaves.
 pub fn latitude(distance: u64, azimuth: u32) -> Amount
-    ensures { λ r. ⌜ told r ≡ courseStep entry north distance azimuth ⌝ }
+    ensures { λ r. ⌜ told r ≡ courseStep entry Course·north distance azimuth ⌝ }
 {
-    let own = sines::table();
-    latitude_in(&own, distance, azimuth)
+    let none = [0u32; 0];
+    latitude_in(&none, distance, azimuth)
 }
 
 pub fn departure(distance: u64, azimuth: u32) -> Amount
-    ensures { λ r. ⌜ told r ≡ courseStep entry east distance azimuth ⌝ }
+    ensures { λ r. ⌜ told r ≡ courseStep entry Course·east distance azimuth ⌝ }
 {
-    let own = sines::table();
-    departure_in(&own, distance, azimuth)
+    let none = [0u32; 0];
+    departure_in(&none, distance, azimuth)
 }

@@ -7,13 +7,18 @@ ghost use lib.IntN.{natAbs};
 ghost use Rattle.answer.specs.Told.{told};
 ghost use Rattle.steps.specs.Share.{share as Share·share, shareStep, angleShareStep};
 
+// By the total's size, whose sign is put back: so the sign is looked at once, and the size is the one that the callers tested.
 fn share_of(total: Whole, part: u64, whole: u64) -> Whole
     requires { ⌜ natAbs (total .v) ≤ 6480000 ⌝ }
     requires { ⌜ part ≤ whole ⌝ }
     requires { ⌜ (0 < whole) × (whole ≤ 1300000000) ⌝ }
     ensures { λ r. ⌜ r .v ≡ Share·share (total .v) part whole ⌝ }
 {
-    Whole::of_size(part).times(total).nearest(whole)
+    let size = Whole::of_size(whole::half_up(part * total.size(), whole));
+    if total.below_zero() {
+        return size.opposite();
+    }
+    size
 }
 
 // The share of a closure at a station: the part is the distance run so far, the whole the sum of grid distances.

@@ -11,16 +11,18 @@ use lib.Dec.{ltb}
 use lib.ListN.{length, getD, set, replicate, drop, drop-of-length-le}
 use lib.Seq.{drop-cons, drop-drop}
 use borrow.Author.Tests.{ltb-true, ltb-false, lt-leb, eq-eqb, ne-eqb}
+use Rattle.whole.specs.Filled.{filled}
 use Rattle.whole.specs.declared.Whole.{Whole}
 use Rattle.tape.specs.Bytes.{two, four, num, meant, twosComplement}
 use Rattle.tape.specs.Record.{Rec, rec, bodyOf, numbersOf, fieldsOf, table}
 use Rattle.tape.specs.Tape.{firstOf, stepOf, walk, start, readingOf, recordsFrom}
-use Rattle.tape.specs.Fields.{fieldsOf as named, nothing, number, putIn, gathered, isRow, scaleOf, withScale, takenOf}
+use Rattle.tape.specs.Fields.{Fields, fieldsOf as named, nothing, number, putIn, gathered, isRow, scaleOf, withScale, controlOf, takenOf}
 use Rattle.tape.specs.declared.State.{State}
 use Rattle.tape.specs.declared.Step.the-variants.{Next}
-use Rattle.tape.specs.declared.Fields.{Fields}
+use Rattle.tape.specs.declared.Control.{Control}
 use Rattle.tape.specs.declared.Reading.{Reading}
 use Rattle.tape.specs.declared.Reading.the-variants.{Refused, Reads}
+use Rattle.tape.specs.declared.Taken.the-variants as taken
 use Rattle.tape.proofs.Held.{ranged}
 use Rattle.tape.proofs.Numbers.{head-drop, num-drop}
 use Rattle.tape.proofs.Onward.{to, Takes, takes, On, onward}
@@ -204,9 +206,11 @@ module _ (s : List ℕ) where
 
     -- ---- the fields
     -- a list with the numbers that stand p bytes into each of the first k legs
-    unfoldable pub put-legs : ℕ → ℕ → List ℕ → List ℕ
-    put-legs p zero l = l
-    put-legs p (suc k) l = set (put-legs p k l) k (num four s (leg-place k + p))
+    abbrev pub in-leg : ℕ → ℕ → ℕ
+    in-leg p k = num four s (leg-place k + p)
+
+    abbrev pub put-legs : ℕ → ℕ → List ℕ → List ℕ
+    put-legs p k l = filled (in-leg p) k l
 
     -- the fields with the first k legs in
     unfoldable pub begun : ℕ → Fields
@@ -225,17 +229,13 @@ module _ (s : List ℕ) where
           place = 0;
         }
 
-    pub put-leg : (p k at v : ℕ) (l m : List ℕ) → at ≡ leg-place k → v ≡ num four s (at + p) → l ≡ put-legs p k m → set l k v ≡ put-legs p (k + 1) m
-    unfolding put-legs
-    put-leg p k at v l m e f h = rw (add-one k, f, e, h)
-
     leg-in : (k at : ℕ) → at ≡ leg-place k → k < 64 → putIn (begun k) at (rec 3 (numbersOf 3 (drop at s))) ≡ begun (k + 1)
-    unfolding putIn numbersOf fieldsOf table meant begun put-legs
+    unfolding putIn numbersOf fieldsOf table meant begun filled
     leg-in k at e low = rw (lt-leb 64 k low, num-drop four at s 1, num-drop four at s 5, e, add-one k)
 
     start-in : putIn (putIn nothing project-place (rec 1 (numbersOf 1 (drop project-place s)))) start-place (rec 2 (numbersOf 2 (drop start-place s)))
         ≡ begun 0
-    unfolding nothing putIn numbersOf fieldsOf table meant begun put-legs
+    unfolding nothing putIn numbersOf fieldsOf table meant begun filled
     start-in =
         rw (
           num-drop two project-place s 1,
@@ -323,11 +323,20 @@ stands s last e =
     let fields : closed s last ≡ named s = rw (b .2 ∙ l .1 ∙ closing) (unfold putIn begun in (rw (b .3) (sym (close-in s last)))) in
     record { long = omega (arith, c .0 .whole, c .1); few = few-legs s last e fields; row = b .1; fields = fields }
 
+-- the same, for `omega` and `search`
+module _ (s : List ℕ) (last : State) (e : readingOf s ≡ Reads last) where
+  pub long : length s ≡ last .rows * 7 + 9 * last .legs + 35
+  long = stands s last e .long
+
+  pub row-high : latitude s last < last .next
+  row-high = stands s last e .row .0
+
+  pub row-low : (m : ℕ) → m ≡ latitude s last → last .next - m ≤ last .rows
+  row-low m h = omega (arith, stands s last e .row .1)
+
 -- what the code takes from these places is the fields
-module _ (s : List ℕ) (last : State) (h : Stands s last) (k at : ℕ) (all : k ≡ last .legs) (there : at ≡ leg-place s last k) where
-  pub fields-are : (angles distances : List ℕ) (elevation : Whole) (angle latitude scale north east mark to-north to-east given : ℕ)
-      → angles ≡ put-legs s last 1 k (replicate 65 0) → distances ≡ put-legs s last 5 k (replicate 64 0)
-      → angle ≡ num four s (at + 1)
+module _ (s : List ℕ) (last : State) (h : Stands s last) (at : ℕ) (there : at ≡ leg-place s last (last .legs)) where
+  pub control-is : (elevation : Whole) (latitude scale north east mark to-north to-east given : ℕ)
       → latitude ≡ num two s (project-place s last + 1)
       → elevation .v ≡ meant twosComplement two (num two s (project-place s last + 3))
       → scale ≡ num four s ((last .rows - (last .next - latitude)) * 7 + 3)
@@ -335,9 +344,6 @@ module _ (s : List ℕ) (last : State) (h : Stands s last) (k at : ℕ) (all : k
       → to-north ≡ num four s (at + 5) → to-east ≡ num four s (at + 9) → given ≡ num four s (at + 13)
       → record {
         legs = last .legs;
-        angles = set angles k angle;
-        distances = distances;
-        latitude = latitude;
         elevation = elevation;
         scale = scale;
         from = record { north = north; east = east };
@@ -345,18 +351,18 @@ module _ (s : List ℕ) (last : State) (h : Stands s last) (k at : ℕ) (all : k
         to = record { north = to-north; east = to-east };
         given = given;
         place = at;
-      } ≡ named s
+      } ≡ controlOf (named s)
   unfolding closed begun
-  fields-are angles distances elevation angle latitude scale north east mark to-north to-east given a b c d e f g i j l m n =
+  control-is elevation latitude scale north east mark to-north to-east given d e f g i j l m n =
       let high : elevation ≡ record { v = meant twosComplement two (num two s (project-place s last + 3)) } = rw (← e) in
-      rw (a, b, c, high, f, d, g, i, j, l, m, n, there, all) (h .fields)
+      rw (← h .fields, high, f, d, g, i, j, l, m, n, there)
 
 -- ---- the answer: r is what the reading answered
 module _ (s : List ℕ) (r : Reading) (e : r ≡ readingOf s) where
-  pub taken-reads : (a : State) (f : Fields) → r ≡ Reads a → f ≡ named s → record { reading = Reads a; fields = f } ≡ takenOf s
+  pub taken-reads : (a : State) (c : Control) → r ≡ Reads a → c ≡ controlOf (named s) → taken.Reads c ≡ takenOf s
   unfolding takenOf
-  taken-reads a f h g = rw (← e, h, g)
+  taken-reads a c h g = rw (← e, h, g)
 
-  pub taken-refused : (f : Fields) (n p : ℕ) → r ≡ Refused n p → f ≡ nothing → record { reading = r; fields = f } ≡ takenOf s
+  pub taken-refused : (n p : ℕ) → r ≡ Refused n p → taken.Refused n p ≡ takenOf s
   unfolding takenOf
-  taken-refused f n p h g = rw (← e, h, g)
+  taken-refused n p h = rw (← e, h)

@@ -17,10 +17,9 @@ use Rattle.whole.specs.Order.{_≤ᶻ_}
 use Rattle.whole.proofs.Diff.{int}
 use Rattle.tape.specs.Record.{Field, Rec, rec, fieldsOf, table, inRanges, goodOf, bodyOf}
 use Rattle.tape.specs.Tape.{mayCome, roomOf, rowNext, projectNext, firstOf, afterOf, judge, start, runOf, recordsOf}
-use Rattle.tape.specs.Fields.{fieldsOf as named, nothing, number, putIn, gathered, isRow, scaleOf, DoesRead}
+use Rattle.tape.specs.Fields.{Fields, fieldsOf as named, nothing, number, putIn, gathered, isRow, scaleOf, DoesRead}
 use Rattle.tape.specs.declared.State.{State}
 use Rattle.tape.specs.declared.Step.the-variants.{Next}
-use Rattle.tape.specs.declared.Fields.{Fields}
 use Rattle.tape.specs.declared.Reading.{Reading}
 use Rattle.tape.specs.declared.Reading.the-variants.{Reads}
 use Rattle.whole.proofs.Branch.{by-test}
@@ -84,7 +83,7 @@ set-more P l i v low h g k b =
     ⊎-elim (λ (e : k ≡ i). rw (e, getD-set-same l i v 0 low) g)
     (λ (c : k < i). rw (getD-set-other l i k v 0 (λ e. omega arith)) (h k c)) (eq-or-lt-of-le (omega arith))
 
-zeros : (n k c : ℕ) → 0 < c → getD (replicate n 0) k 0 < c
+pub zeros : (n k c : ℕ) → 0 < c → getD (replicate n 0) k 0 < c
 zeros zero k c h = h
 zeros (suc n) zero c h = h
 zeros (suc n) (suc k) c h = zeros n k c h

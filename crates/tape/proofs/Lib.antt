@@ -2,6 +2,7 @@ pub mod Back
 pub mod Bodies
 pub mod Gathering
 pub mod Held
+pub mod Legs
 pub mod Longest
 pub mod Numbers
 pub mod Onward

@@ -6,13 +6,30 @@ use Prim.Native.Nat.{ℕ, _+_}
 use lib.Dec.{leb, eqb}
 use lib.ListN.{getD, set, replicate}
 use lib.IntN.{ℤ, pos, natAbs}
+use Rattle.whole.specs.declared.Whole.{Whole}
 use Rattle.tape.specs.declared.State.{State}
-use Rattle.tape.specs.declared.Fields.{Fields}
+use Rattle.tape.specs.declared.Point.{Point}
+use Rattle.tape.specs.declared.Control.{Control}
 use Rattle.tape.specs.declared.Taken.{Taken}
+use Rattle.tape.specs.declared.Taken.the-variants as taken
 use Rattle.tape.specs.declared.Reading.{Reading}
-use Rattle.tape.specs.declared.Reading.the-variants.{Refused, Reads}
+use Rattle.tape.specs.declared.Reading.the-variants as reading
 use Rattle.tape.specs.Record.{Rec, bodyOf}
 use Rattle.tape.specs.Tape.{readingOf, recordsOf}
+
+-- the angle right at station k turns to leg k; that at the last station is the closing one. place is the close's first byte
+pub record Fields : Type 0 where
+  pub legs : ℕ
+  pub angles : List ℕ
+  pub distances : List ℕ
+  pub latitude : ℕ
+  pub elevation : Whole
+  pub scale : ℕ
+  pub from : Point
+  pub mark : ℕ
+  pub to : Point
+  pub given : ℕ
+  pub place : ℕ
 
 unfoldable pub nothing : Fields
 nothing =
@@ -95,10 +112,23 @@ withScale f scale =
 unfoldable pub fieldsOf : List ℕ → Fields
 fieldsOf tape = let f = gathered nothing 0 (recordsOf tape) in withScale f (scaleOf (f .latitude) (recordsOf tape))
 
--- ---- the answer
+-- ---- the answer: the latitude has told the scale, and the angles and distances stay on the tape
+abbrev pub controlOf : Fields → Control
+controlOf f =
+    record {
+      legs = f .legs;
+      elevation = f .elevation;
+      scale = f .scale;
+      from = f .from;
+      mark = f .mark;
+      to = f .to;
+      given = f .given;
+      place = f .place;
+    }
+
 abbrev pub takenIf : Reading → Fields → Taken
-takenIf (Reads st) f = record { reading = Reads st; fields = f }
-takenIf (Refused n p) f = record { reading = Refused n p; fields = nothing }
+takenIf (reading.Reads st) f = taken.Reads (controlOf f)
+takenIf (reading.Refused n p) f = taken.Refused n p
 
 unfoldable pub takenOf : List ℕ → Taken
 takenOf tape = takenIf (readingOf tape) (fieldsOf tape)
@@ -106,4 +136,4 @@ takenOf tape = takenIf (readingOf tape) (fieldsOf tape)
 -- a tape that reads
 pub record DoesRead (tape : List ℕ) : Type 0 where
   pub last : State
-  pub reads : readingOf tape ≡ Reads last
+  pub reads : readingOf tape ≡ reading.Reads last

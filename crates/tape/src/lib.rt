@@ -3,8 +3,9 @@ use whole::Whole;
 ghost use mathlib.Core.Path.{_≡_};
 ghost use mathlib.Core.Bool.{true};
 ghost use mathlib.Core.List.{_++_};
-ghost use Prim.Native.Nat.{_+_, _≤_};
+ghost use Prim.Native.Nat.{_+_, _-_, _≤_};
 ghost use lib.ListN.{length, take, drop};
+ghost use Rattle.tape.specs.Bytes.{fourAt};
 ghost use Rattle.tape.specs.Record.{goodRecord, bytesOfRecord};
 ghost use Rattle.tape.specs.Tape.{readingOf, told};
 ghost use Rattle.tape.specs.Fields.{takenOf};
@@ -76,12 +77,9 @@ pub struct Point {
     pub east: u32,
 }
 
-// The fields of a tape by their names. The angle right at station k turns to leg k; that at the last station is the closing one.
-pub struct Fields {
+// The fields of a tape, but for the angles and distances: these stay on the tape, nine bytes a leg before the close, which stands at the place.
+pub struct Control {
     pub legs: usize,
-    pub angles: [u32; 65],
-    pub distances: [u32; 64],
-    pub latitude: u32,
     pub elevation: Whole,
     pub scale: u32,
     pub from: Point,
@@ -91,10 +89,10 @@ pub struct Fields {
     pub place: usize,
 }
 
-// A reading, and the fields of a tape that reads; all zeros where it does not.
-pub struct Taken {
-    pub reading: Reading,
-    pub fields: Fields,
+// A tape's refusal, or the fields of one that reads.
+pub enum Taken {
+    Refused { number: u32, place: usize },
+    Reads(Control),
 }
 
 mod digits;
@@ -111,21 +109,34 @@ pub fn read(tape: &[u8]) -> Reading
     order::read_all(tape)
 }
 
-// The reading of any tape, and the fields of one that reads.
+// The reading of any tape, and the fields of one that reads. Whoever walks its legs takes their angles and distances by `four`.
 pub fn take(tape: &[u8]) -> Taken
     ensures { λ r. ⌜ r ≡ takenOf (now (tape .entry)) ⌝ }
 {
-    let reading = order::read_all(tape);
-    match reading {
-        Reading::Reads(last) => Taken {
-            reading,
-            fields: taking::gather(tape, last),
-        },
-        Reading::Refused { .. } => Taken {
-            reading,
-            fields: taking::none(),
-        },
+    match order::read_all(tape) {
+        Reading::Reads(last) => Taken::Reads(taking::control(tape, last)),
+        Reading::Refused { number, place } => Taken::Refused { number, place },
     }
+}
+
+// How many places of a tape have a number of four bytes: a place is then tried by one comparison, with no sum that could overflow.
+fn places(tape: &[u8]) -> usize
+    ensures { λ r. ⌜ r ≡ length (now (tape .entry)) - 3 ⌝ }
+{
+    if tape.len() < 3 {
+        return 0;
+    }
+    tape.len() - 3
+}
+
+// The number at a place; 0 where there is none. Any place may be given.
+pub fn four(tape: &[u8], at: usize) -> u32
+    ensures { λ r. ⌜ r ≡ fourAt (now (tape .entry)) at ⌝ }
+{
+    if at < places(tape) {
+        return digits::four_at(tape, at);
+    }
+    0
 }
 
 // The rest of the bytes lent on to the writer of the record's kind.

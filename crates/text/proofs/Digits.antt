@@ -2,7 +2,7 @@
 use Prim.Native.Nat.{ℕ, zero, suc, _+_, _-_, _/_, _%_, _^_, _≤_, _<_}
 use native.Mathlib.Omega.{arith}
 use native.Mathlib.Decide.{decLt}
-use native.Mathlib.Nat.{pow-suc, one-le-pow}
+use native.Mathlib.Nat.{zero-add, pow-suc, pow-succ', one-le-pow, div-one, div-div-eq-div-mul}
 use mathlib.Core.Path.{_≡_, refl, sym, _∙_, ap}
 use mathlib.Core.List.{List, [], _∷_}
 use borrow.Author.Tests.{lt-ltb, le-ltb}
@@ -82,6 +82,26 @@ places-fewest k n h =
       | no l ↦ omega arith
     ]
 
+-- between two powers of ten it has as many as the higher one has zeros
+pub places-exact : (k n : ℕ) → 10 ^ k ≤ n → n < 10 ^ suc k → suc k ≡ places n
+places-exact k n h i =
+    elim (decLt (places n) (suc k)) [
+      | yes l ↦ absurd (omega (arith, places-hold k n (omega arith)))
+      | no l ↦ omega (arith, places-most k n i)
+    ]
+
+-- the last digit goes first, then the k before it
+pub tenth-first : (k n : ℕ) → n / 10 ^ suc k ≡ n / 10 / 10 ^ k
+tenth-first k n = rw (pow-succ' 10 k) (sym (div-div-eq-div-mul n 10 (10 ^ k)))
+
+-- without its last k digits it has k fewer
+places-past : (k n : ℕ) → 10 ^ k ≤ n → k + places (n / 10 ^ k) ≡ places n
+places-past zero n h = rw (div-one n) (zero-add (places n))
+places-past (suc k) n h =
+    let i = pow-suc 10 k in
+    let j = one-le-pow k 10 (omega arith) in
+    rw (tenth-first k n) (omega (arith, i, j, places-past k (n / 10) (omega (arith, i)), places-high n (omega (arith, i, j))))
+
 -- ---- the count of the code, a digit at a time
 module _ (k n rest : ℕ) (e : k + places rest ≡ 1 + places n) where
   pub count-next : 9 < rest → k + 1 + places (rest / 10) ≡ 1 + places n
@@ -92,6 +112,14 @@ module _ (k n rest : ℕ) (e : k + places rest ≡ 1 + places n) where
 
   pub count-fits : Fits w64 n → 9 < rest → Fits w64 (k + 1)
   count-fits f h = omega (arith, places-high rest (omega arith), places-most 19 n (omega (arith, f .fits)))
+
+-- ---- and by what is left without the last six digits
+module _ (r n : ℕ) (e : r ≡ places (n / 1000000)) where
+  pub long-fits : Fits w64 n → Fits w64 (6 + r)
+  long-fits f = omega (arith, places-most 19 (n / 1000000) (omega (arith, f .fits)))
+
+  pub long-count : 1000000 ≤ n → 6 + r ≡ places n
+  long-count h = rw e (places-past 6 n h)
 
 -- ---- the digits of the code, the last one first
 pub digits-length : (k n : ℕ) → length (digits k n) ≡ k

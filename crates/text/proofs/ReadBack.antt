@@ -2,7 +2,7 @@
 -- n / 10 ^ k before them, spell n, while the point and a plus are passed over and a minus stands first exactly where the amount is negative.
 use Prim.Native.Nat.{ℕ, zero, suc, _+_, _-_, _*_, _/_, _%_, _^_, _<_}
 use native.Mathlib.Omega.{arith}
-use native.Mathlib.Nat.{pow-succ', div-one, div-eq-of-lt, div-div-eq-div-mul}
+use native.Mathlib.Nat.{div-one, div-eq-of-lt}
 use mathlib.Core.Path.{_≡_, refl, sym, ap, _∙_}
 use mathlib.Core.Bool.{Bool, false, cond, _&&_}
 use mathlib.Core.List.{List, [], _∷_, _++_}
@@ -11,7 +11,7 @@ use lib.Dec.{leb, eqb}
 use lib.ListN.{getD}
 use lib.IntN.{ℤ, pos, negsuc, negℤ}
 use Rattle.text.specs.Text.{ascii, digits, places, decimal, pointed, sign, amount, signed, plain}
-use Rattle.text.proofs.Digits.{places-hold}
+use Rattle.text.proofs.Digits.{places-hold, tenth-first}
 
 -- the number that the digits of a text spell, read on from n; what is no digit is passed over
 unfoldable pub spelled : ℕ → List ℕ → ℕ
@@ -45,10 +45,7 @@ digits-back : (k n : ℕ) → spelled (n / 10 ^ k) (digits k n) ≡ n
 unfolding digits spelled
 digits-back zero n = div-one n
 digits-back (suc k) n =
-    rw (before, spelled-append (n / 10 / 10 ^ k) (digits k (n / 10)) _, digits-back k (n / 10)) (digit-back (n / 10) (n % 10) (omega arith) ∙ omega arith)
-  where
-    before : n / 10 ^ suc k ≡ n / 10 / 10 ^ k
-    before = rw (pow-succ' 10 k) (sym (div-div-eq-div-mul n 10 (10 ^ k)))
+    rw (tenth-first k n, spelled-append (n / 10 / 10 ^ k) (digits k (n / 10)) _, digits-back k (n / 10)) (digit-back (n / 10) (n % 10) (omega arith) ∙ omega arith)
 
 minus-digits : (k n : ℕ) → minus (digits k n) ≡ false
 unfolding digits

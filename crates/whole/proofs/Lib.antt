@@ -1,6 +1,7 @@
 pub mod Branch
 pub mod Diff
 pub mod Examples
+pub mod Filling
 pub mod Laws
 pub mod Machine
 pub mod Poly

@@ -1,3 +1,4 @@
+pub mod Filled
 pub mod Nearest
 pub mod Order
 pub mod Sum

@@ -1,38 +1,21 @@
--- `traverse` meets its contract: room, then the first step, then the second.
+-- `traverse` meets its contract: with no table lent, the entries are the paper's.
+use Rattle.desk.proofs.Stepping.{own-told, own-words}
 use borrow.Author.Needs.{needs}
-use Rattle.desk.proofs.Stepping.{refused-told, refused-words, good-told, good-words, first-sound, first-room}
 use Rattle.desk.proofs.traverse.Statement.{statement}
 use Rattle.desk.proofs.traverse.Tie as tie
 
-first-for-requires : tie.Need-first-for-requires
-first-for-requires c κs = search needs
+slice-aggregate-traverse-in : tie.Need-slice-aggregate-traverse-in
+slice-aggregate-traverse-in c = search needs
 
-enum-known-checked : tie.Need-enum-known-checked
-enum-known-checked c = search needs
-
-enum-told : tie.Need-enum-told
-enum-told c = search needs
-
-with-table-requires : tie.Need-with-table-requires
-with-table-requires c κs = (search first-sound, search first-room)
-
-returns : tie.Need-returns
-returns c = (search refused-told, search refused-words)
+traverse-in-requires : tie.Need-traverse-in-requires
+traverse-in-requires c κs = search needs
 
 same-length : tie.Need-same-length
 same-length c = search needs
 
-returns-2 : tie.Need-returns-2
-returns-2 c = (search good-told, search good-words)
+returns : tie.Need-returns
+returns c = (search own-told, search own-words)
 
 pub traverse-spec : {M : Type 1} → statement M
 traverse-spec =
-    tie.close
-    (tie.spec
-    first-for-requires
-    enum-known-checked
-    enum-told
-    with-table-requires
-    returns
-    same-length
-    returns-2)
+    tie.close (tie.spec slice-aggregate-traverse-in traverse-in-requires same-length returns)

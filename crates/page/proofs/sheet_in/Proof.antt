@@ -1,4 +1,4 @@
--- `sheet_in` meets its contract as `sheet` does: no room, or the answer of the traverse by the lent table shown.
+-- `sheet_in` meets its contract: no room, or the answer of the traverse by the lent table shown.
 use borrow.Author.Needs.{needs}
 use Rattle.sines.proofs.Own.{lent-entries}
 use Rattle.page.proofs.Paging.{no-room, shows, showed}

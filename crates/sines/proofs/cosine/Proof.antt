@@ -1,11 +1,11 @@
--- `cosine` meets its contract: in the desk's own table the lent table's cosine is the cosine.
+-- `cosine` meets its contract: by an empty list the cosine is the paper's.
 use borrow.Author.Needs.{needs}
 use Rattle.sines.proofs.Own.{own-cosine}
 use Rattle.sines.proofs.cosine.Statement.{statement}
 use Rattle.sines.proofs.cosine.Tie as tie
 
-table-requires : tie.Need-table-requires
-table-requires c κs = search needs
+slice-aggregate-cosine-in : tie.Need-slice-aggregate-cosine-in
+slice-aggregate-cosine-in c = search needs
 
 cosine-in-requires : tie.Need-cosine-in-requires
 cosine-in-requires c κs = search needs
@@ -14,4 +14,4 @@ returns : tie.Need-returns
 returns c = search own-cosine
 
 pub cosine-spec : {M : Type 1} → statement M
-cosine-spec = tie.close (tie.spec table-requires cosine-in-requires returns)
+cosine-spec = tie.close (tie.spec slice-aggregate-cosine-in cosine-in-requires returns)

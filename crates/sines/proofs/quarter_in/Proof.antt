@@ -1,31 +1,20 @@
--- `quarter_in` meets its contract: off a minute it is the rule itself; at a whole minute the rule gives the entry whatever stands behind it, so the
--- code may take the entry itself for the next, and never reads past the table.
+-- `quarter_in` meets its contract: it is the rule itself, where the entry behind 90 degrees has no weight.
 use borrow.Author.Needs.{needs}
-use mathlib.Core.Logic.{⊎-elim}
-use native.Mathlib.Omega.{arith}
-use Rattle.sines.proofs.Quadrants.{on-minute, off-minute}
+use Rattle.sines.proofs.Quadrants.{quarter-is}
 use Rattle.sines.proofs.quarter_in.Statement.{statement}
 use Rattle.sines.proofs.quarter_in.Tie as tie
 
-cast-m : tie.Need-cast-m
-cast-m c = search needs
+cast-pair-in : tie.Need-cast-pair-in
+cast-pair-in c = search needs
 
-add-next : tie.Need-add-next
-add-next c = search needs
-
-entry-in-requires : tie.Need-entry-in-requires
-entry-in-requires c κs = search needs
-
-entry-in-requires-2 : tie.Need-entry-in-requires-2
-entry-in-requires-2 c κs = ⊎-elim (λ w. omega arith) (λ w. omega arith) (c .before .if1 .came)
+pair-in-requires : tie.Need-pair-in-requires
+pair-in-requires c κs = search needs
 
 between-requires : tie.Need-between-requires
 between-requires c κs = search needs
 
 returns : tie.Need-returns
-returns c = (⊎-elim (λ w. search on-minute) (λ w. search off-minute) (c .before .before .before .if1 .came), search needs)
+returns c = (search quarter-is, search needs)
 
 pub quarter-in-spec : {M : Type 1} → statement M
-quarter-in-spec =
-    tie.close
-    (tie.spec cast-m add-next entry-in-requires entry-in-requires-2 between-requires returns)
+quarter-in-spec = tie.close (tie.spec cast-pair-in pair-in-requires between-requires returns)

@@ -1,4 +1,4 @@
--- `take` meets its contract: the fields are gathered where the reading reads, and are nothing where it refuses.
+-- `take` meets its contract: what the tape says is taken where the reading reads, and where it refuses the refusal is handed on.
 use Rattle.tape.proofs.Gathering.{taken-reads, taken-refused}
 use borrow.Author.Needs.{needs}
 use Rattle.tape.proofs.take.Statement.{statement}
@@ -7,17 +7,14 @@ use Rattle.tape.proofs.take.Tie as tie
 read-all-requires : tie.Need-read-all-requires
 read-all-requires c κs = search needs
 
-enum-known-reading : tie.Need-enum-known-reading
-enum-known-reading c = search needs
+enum-known-last : tie.Need-enum-known-last
+enum-known-last c = search needs
 
-gather-requires : tie.Need-gather-requires
-gather-requires c κs = cc
+control-requires : tie.Need-control-requires
+control-requires c κs = cc
 
-enum-told : tie.Need-enum-told
-enum-told c = search needs
-
-none-requires : tie.Need-none-requires
-none-requires c κs = search needs
+enum-known-number : tie.Need-enum-known-number
+enum-known-number c = search needs
 
 returns : tie.Need-returns
 returns c = search taken-reads
@@ -26,13 +23,4 @@ returns-2 : tie.Need-returns-2
 returns-2 c = search taken-refused
 
 pub take-spec : {M : Type 1} → statement M
-take-spec =
-    tie.close
-    (tie.spec
-    read-all-requires
-    enum-known-reading
-    gather-requires
-    enum-told
-    none-requires
-    returns
-    returns-2)
+take-spec = tie.close (tie.spec read-all-requires enum-known-last control-requires enum-known-number returns returns-2)

@@ -1,32 +1,48 @@
--- `places` meets its contract. The loop's invariant: the digits counted and those of the rest are one more than those of the number. The measure is the rest.
-use Prim.Native.Nat.{_+_}
-use mathlib.Core.Path.{_≡_}
+-- `places` meets its contract: a number between two powers of ten has as many digits as the higher one has zeros, and without its last six it has six fewer.
+use native.Mathlib.Omega.{arith}
+use mathlib.Core.Path.{sym}
 use borrow.Author.Needs.{needs}
-use Rattle.text.specs.Text.{places}
-use Rattle.text.proofs.Digits.{count-next, count-last, count-fits}
+use Rattle.text.proofs.Digits.{places-low, places-exact, long-fits, long-count}
 use Rattle.text.proofs.places.Statement.{statement}
 use Rattle.text.proofs.places.Tie as tie
 
-abbrev Inv-loop : tie.InvT-loop
-Inv-loop n k₀ rest₀ k rest = k + places rest ≡ 1 + places n
+returns : tie.Need-returns
+returns c = sym (places-low _ (omega arith))
 
-abbrev μ-loop : tie.MeasureT-loop
-μ-loop n k₀ rest₀ k rest = rest
+returns-2 : tie.Need-returns-2
+returns-2 c = places-exact 1 _ (omega arith) (omega arith)
 
-loop-holds : tie.Need-loop-holds Inv-loop μ-loop
-loop-holds c = search needs
+returns-3 : tie.Need-returns-3
+returns-3 c = places-exact 2 _ (omega arith) (omega arith)
 
-add-k : tie.Need-add-k Inv-loop μ-loop
-add-k c = search count-fits
+returns-4 : tie.Need-returns-4
+returns-4 c = places-exact 3 _ (omega arith) (omega arith)
 
-loop-less : tie.Need-loop-less Inv-loop μ-loop
-loop-less c = search needs
+returns-5 : tie.Need-returns-5
+returns-5 c = places-exact 4 _ (omega arith) (omega arith)
 
-loop-again : tie.Need-loop-again Inv-loop μ-loop
-loop-again c = search count-next
+returns-6 : tie.Need-returns-6
+returns-6 c = places-exact 5 _ (omega arith) (omega arith)
 
-returns : tie.Need-returns Inv-loop μ-loop
-returns c = search count-last
+long-places-requires : tie.Need-long-places-requires
+long-places-requires c κs = search needs
+
+add-result : tie.Need-add-result
+add-result c = search long-fits
+
+returns-7 : tie.Need-returns-7
+returns-7 c = search long-count
 
 pub places-spec : {M : Type 1} → statement M
-places-spec = tie.close (tie.spec Inv-loop μ-loop loop-holds add-k loop-less loop-again returns)
+places-spec =
+    tie.close
+    (tie.spec
+    returns
+    returns-2
+    returns-3
+    returns-4
+    returns-5
+    returns-6
+    long-places-requires
+    add-result
+    returns-7)

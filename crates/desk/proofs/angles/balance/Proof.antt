@@ -1,17 +1,21 @@
--- `balance` meets its contract. The loop's invariant: the list is filled with the balanced azimuths up to leg k. The measure is the legs that are left.
+-- `balance` meets its contract. The loop's invariant: the azimuths before leg k are balanced, the others are as they were. The measure is the legs that
+-- are left.
 use borrow.Author.Needs.{needs}
 use Prim.Native.Nat.{_-_, _≤_}
 use mathlib.Core.Path.{_≡_}
-use Rattle.desk.specs.Angles.{balancedOf, filled}
-use Rattle.desk.proofs.Balancing.{turned-at, filled-next, filled-last}
+use lib.ListN.{length}
+use Rattle.whole.specs.Filled.{filled}
+use Rattle.desk.specs.Inside.{balancedIn}
+use Rattle.desk.proofs.Balancing.{balancing-room, balancing-turned, balancing-next}
+use Rattle.whole.proofs.Filling.{filled-last}
 use Rattle.desk.proofs.angles.balance.Statement.{statement}
 use Rattle.desk.proofs.angles.balance.Tie as tie
 
 abbrev Inv-loop : tie.InvT-loop
-Inv-loop f w azimuths balanced₀ k₀ balanced k = (k ≤ f .legs) × (balanced ≡ filled (balancedOf f) k balanced₀)
+Inv-loop w legs azimuths₀ k₀ azimuths k = (k ≤ legs) × (azimuths ≡ balancedIn (w .v) legs k azimuths₀) × (length azimuths ≡ length azimuths₀)
 
 abbrev μ-loop : tie.MeasureT-loop
-μ-loop f w azimuths balanced₀ k₀ balanced k = f .legs - k
+μ-loop w legs azimuths₀ k₀ azimuths k = legs - k
 
 loop-holds : tie.Need-loop-holds Inv-loop μ-loop
 unfolding filled
@@ -20,17 +24,17 @@ loop-holds c = search needs
 mul-balanced-leg : tie.Need-mul-balanced-leg Inv-loop μ-loop
 mul-balanced-leg c = search needs
 
-array-read-balanced-leg : tie.Need-array-read-balanced-leg Inv-loop μ-loop
-array-read-balanced-leg c = search needs
+slice-read-balanced-leg : tie.Need-slice-read-balanced-leg Inv-loop μ-loop
+slice-read-balanced-leg c = search balancing-room
 
 balanced-leg-requires : tie.Need-balanced-leg-requires Inv-loop μ-loop
-balanced-leg-requires c κs = (search turned-at, (search needs, search needs))
+balanced-leg-requires c κs = (search balancing-turned, (search needs, search needs))
 
-mul-balanced : tie.Need-mul-balanced Inv-loop μ-loop
-mul-balanced c = search needs
+mul-azimuths : tie.Need-mul-azimuths Inv-loop μ-loop
+mul-azimuths c = search needs
 
-array-write-balanced : tie.Need-array-write-balanced Inv-loop μ-loop
-array-write-balanced c = search needs
+slice-write-azimuths : tie.Need-slice-write-azimuths Inv-loop μ-loop
+slice-write-azimuths c = search balancing-room
 
 add-k : tie.Need-add-k Inv-loop μ-loop
 add-k c = search needs
@@ -39,7 +43,10 @@ loop-less : tie.Need-loop-less Inv-loop μ-loop
 loop-less c = search needs
 
 loop-again : tie.Need-loop-again Inv-loop μ-loop
-loop-again c = (search needs, search filled-next)
+loop-again c = (search needs, search balancing-next, search needs)
+
+same-length : tie.Need-same-length Inv-loop μ-loop
+same-length c = search needs
 
 returns : tie.Need-returns Inv-loop μ-loop
 returns c = search filled-last
@@ -52,11 +59,12 @@ balance-spec =
     μ-loop
     loop-holds
     mul-balanced-leg
-    array-read-balanced-leg
+    slice-read-balanced-leg
     balanced-leg-requires
-    mul-balanced
-    array-write-balanced
+    mul-azimuths
+    slice-write-azimuths
     add-k
     loop-less
     loop-again
+    same-length
     returns)

@@ -1,14 +1,8 @@
--- `misclosure_of` meets its contract: the step gives its value, since the carried azimuth and the given one are within the circle.
-use borrow.Author.Needs.{needs}
+-- `misclosure_of` meets its contract: the step gives its value, since both azimuths are within the circle.
 use Rattle.desk.proofs.Balancing.{misclosure-value, misclosure-small}
+use borrow.Author.Needs.{needs}
 use Rattle.desk.proofs.angles.misclosure_of.Statement.{statement}
 use Rattle.desk.proofs.angles.misclosure_of.Tie as tie
-
-mul-misclosure : tie.Need-mul-misclosure
-mul-misclosure c = search needs
-
-array-read-misclosure : tie.Need-array-read-misclosure
-array-read-misclosure c = search needs
 
 misclosure-requires : tie.Need-misclosure-requires
 misclosure-requires c κs = search needs
@@ -20,6 +14,4 @@ returns : tie.Need-returns
 returns c = (search misclosure-value, search misclosure-small)
 
 pub misclosure-of-spec : {M : Type 1} → statement M
-misclosure-of-spec =
-    tie.close
-    (tie.spec mul-misclosure array-read-misclosure misclosure-requires value-requires returns)
+misclosure-of-spec = tie.close (tie.spec misclosure-requires value-requires returns)

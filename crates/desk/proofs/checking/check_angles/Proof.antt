@@ -1,26 +1,38 @@
 -- `check_angles` meets its contract: the test of the misclosure decides between the refusal and the balanced traverse.
+use Rattle.desk.proofs.Carrying.{placeable, given-turned, closing-turned, legs-some, legs-few, all-turned, scaled, checked-good, checked-bad}
 use borrow.Author.Needs.{needs}
-use Rattle.desk.proofs.Stepping.{checked-good, checked-bad}
 use Rattle.desk.proofs.checking.check_angles.Statement.{statement}
 use Rattle.desk.proofs.checking.check_angles.Tie as tie
 
 carry-requires : tie.Need-carry-requires
-carry-requires c κs = search needs
+carry-requires c κs = (search needs, (search placeable, search needs))
 
 misclosure-of-requires : tie.Need-misclosure-of-requires
-misclosure-of-requires c κs = search needs
+misclosure-of-requires c κs = (search closing-turned, search given-turned)
 
 angles-close-requires : tie.Need-angles-close-requires
-angles-close-requires c κs = search needs
+angles-close-requires c κs = (search needs, search legs-some, search legs-few)
 
-balanced-traverse-requires : tie.Need-balanced-traverse-requires
-balanced-traverse-requires c κs = search needs
+balance-requires : tie.Need-balance-requires
+balance-requires c κs = ((search needs, search legs-few), search all-turned)
+
+frame-requires : tie.Need-frame-requires
+frame-requires c κs = search scaled
+
+same-length : tie.Need-same-length
+same-length c = search needs
+
+same-length-2 : tie.Need-same-length-2
+same-length-2 c = search needs
 
 returns : tie.Need-returns
 returns c = search checked-good
 
-refuse-requires : tie.Need-refuse-requires
-refuse-requires c κs = search needs
+same-length-3 : tie.Need-same-length-3
+same-length-3 c = search needs
+
+same-length-4 : tie.Need-same-length-4
+same-length-4 c = search needs
 
 returns-2 : tie.Need-returns-2
 returns-2 c = search checked-bad
@@ -32,7 +44,11 @@ check-angles-spec =
     carry-requires
     misclosure-of-requires
     angles-close-requires
-    balanced-traverse-requires
+    balance-requires
+    frame-requires
+    same-length
+    same-length-2
     returns
-    refuse-requires
+    same-length-3
+    same-length-4
     returns-2)

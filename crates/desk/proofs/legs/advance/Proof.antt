@@ -1,37 +1,42 @@
--- `advance` meets its contract: each sum grows by what the leg adds to it.
+-- `advance` meets its contract: the steps give their values, since the leg is in range, and each is added to its sum.
+use Rattle.desk.proofs.Running.{course-small, advanced}
 use borrow.Author.Needs.{needs}
 use Rattle.desk.proofs.legs.advance.Statement.{statement}
 use Rattle.desk.proofs.legs.advance.Tie as tie
 
+mul-grid-distance : tie.Need-mul-grid-distance
+mul-grid-distance c = search needs
+
+shared-slice-read-grid-distance : tie.Need-shared-slice-read-grid-distance
+shared-slice-read-grid-distance c = search needs
+
 grid-distance-requires : tie.Need-grid-distance-requires
 grid-distance-requires c κs = search needs
 
-latitude-requires : tie.Need-latitude-requires
-latitude-requires c κs = search needs
+mul-moves-in : tie.Need-mul-moves-in
+mul-moves-in c = search needs
 
-plus-requires : tie.Need-plus-requires
-plus-requires c κs = search needs
+shared-slice-read-moves-in : tie.Need-shared-slice-read-moves-in
+shared-slice-read-moves-in c = search needs
 
-departure-requires : tie.Need-departure-requires
-departure-requires c κs = search needs
+moves-in-requires : tie.Need-moves-in-requires
+moves-in-requires c κs = search needs
 
-plus-requires-2 : tie.Need-plus-requires-2
-plus-requires-2 c κs = search needs
-
-add-t10 : tie.Need-add-t10
-add-t10 c = search needs
+added-requires : tie.Need-added-requires
+added-requires c κs = (search needs, ((search course-small, search course-small), search needs))
 
 returns : tie.Need-returns
-returns c = record { north = cc; east = cc; run = cc }
+returns c = search advanced
 
 pub advance-spec : {M : Type 1} → statement M
 advance-spec =
     tie.close
     (tie.spec
+    mul-grid-distance
+    shared-slice-read-grid-distance
     grid-distance-requires
-    latitude-requires
-    plus-requires
-    departure-requires
-    plus-requires-2
-    add-t10
+    mul-moves-in
+    shared-slice-read-moves-in
+    moves-in-requires
+    added-requires
     returns)

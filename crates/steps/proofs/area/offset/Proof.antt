@@ -1,6 +1,5 @@
 -- `offset` meets its contract: every word passed the test, and so this one.
 use borrow.Author.Needs.{needs}
-use borrow.Author.Needs.{needs}
 use Rattle.steps.proofs.Areas.{small-at}
 use Rattle.steps.proofs.area.offset.Statement.{statement}
 use Rattle.steps.proofs.area.offset.Tie as tie

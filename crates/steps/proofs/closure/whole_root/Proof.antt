@@ -1,65 +1,43 @@
--- `whole_root` meets its contract. The loop's invariant: r squared is at most x, and x is below the square of r + width; so where the width is 1, r is
--- the root. The measure is the width, which each turn halves.
-use mathlib.Core.Path.{_≡_}
-use mathlib.Core.Logic.{⊎-elim}
-use Prim.Native.Nat.{_+_, _*_, _/_, _≤_, _<_}
+-- `whole_root` meets its contract. The loop's invariant: x is below the square of r + 1, so that r is not below the root, and r is at most the number that it
+-- started from. The measure is r: while its square is above x, x / r is below it, and so is their mean.
+use Prim.Native.Nat.{_+_, _*_, _≤_, _<_}
 use native.Mathlib.Omega.{arith}
-use Rattle.steps.proofs.Laws.{product-most}
-use Rattle.steps.proofs.Rooting.{taken-low, taken-high, left-low, left-high}
+use Rattle.steps.proofs.Laws.{square-fits}
+use Rattle.steps.proofs.Rooting.{some-square, quotient-below, mean-above}
 use Rattle.steps.proofs.closure.whole_root.Statement.{statement}
 use Rattle.steps.proofs.closure.whole_root.Tie as tie
 
 abbrev Inv-loop : tie.InvT-loop
-Inv-loop x r₀ width₀ r width = (0 < width) × (r + width ≤ 134217728) × (r * r ≤ x) × (x < (r + width) * (r + width))
+Inv-loop x most r₀ r = (r ≤ 1300000000) × (x < (r + 1) * (r + 1))
 
 abbrev μ-loop : tie.MeasureT-loop
-μ-loop x r₀ width₀ r width = width
+μ-loop x most r₀ r = r
 
 loop-holds : tie.Need-loop-holds Inv-loop μ-loop
-loop-holds c = omega arith
+loop-holds c = c .pre
 
-add-if1 : tie.Need-add-if1 Inv-loop μ-loop
-add-if1 c = omega arith
+mul-loop : tie.Need-mul-loop Inv-loop μ-loop
+mul-loop c = square-fits (c .loop .r) (c .loop .inv .0)
 
-add-if1-2 : tie.Need-add-if1-2 Inv-loop μ-loop
-add-if1-2 c = omega arith
-
-mul-if1 : tie.Need-mul-if1 Inv-loop μ-loop
-mul-if1 c = let m = c .before .loop .r + c .before .loop .width / 2 in omega (arith, product-most m m 134217728 134217728 (omega arith) (omega arith))
+div-r : tie.Need-div-r Inv-loop μ-loop
+div-r c = some-square (c .before .before .args .x) (c .before .loop .r) (c .loop-test .taken)
 
 add-r : tie.Need-add-r Inv-loop μ-loop
-add-r c = omega arith
-
-sub-width : tie.Need-sub-width Inv-loop μ-loop
-sub-width c = omega arith
+add-r c = record { fits = omega (arith, quotient-below (c .before .before .args .x) (c .before .loop .r) (c .loop-test .taken)) }
 
 loop-less : tie.Need-loop-less Inv-loop μ-loop
-loop-less c = omega arith
+loop-less c = omega (arith, quotient-below (c .before .before .args .x) (c .before .loop .r) (c .loop-test .taken))
 
 loop-again : tie.Need-loop-again Inv-loop μ-loop
 loop-again c =
-    let l = c .before .before .loop in
-    let x = c .before .before .before .args .x in
-    ⊎-elim
-    (λ w. (omega arith, omega arith, taken-low x (l .r) (l .width / 2) (l .width) (c .if1 .r) (w .1) (w .0 .taken), taken-high x (l .r) (l .width / 2) (l .width) (c .if1 .r) (w .1) (omega arith) (l .inv .3)))
-    (λ w. (omega arith, omega arith, left-low x (l .r) (l .width / 2) (l .width) (c .if1 .r) (w .1) (l .inv .2), left-high x (l .r) (l .width / 2) (l .width) (c .if1 .r) (w .1) (omega arith) (w .0 .left)))
-    (c .if1 .came)
+    let x = c .before .before .args .x in
+    let r = c .before .loop .r in
+    (omega (arith, quotient-below x r (c .loop-test .taken)), mean-above x r (c .loop-test .taken))
 
 returns : tie.Need-returns Inv-loop μ-loop
-returns c = let e : c .before .loop .width ≡ 1 = omega arith in (c .before .loop .inv .2, rw e at (c .before .loop .inv .3))
+returns c = (c .loop-test .left, c .before .loop .inv .1)
 
 pub whole-root-spec : {M : Type 1} → statement M
 whole-root-spec =
     tie.close
-    (tie.spec
-    Inv-loop
-    μ-loop
-    loop-holds
-    add-if1
-    add-if1-2
-    mul-if1
-    add-r
-    sub-width
-    loop-less
-    loop-again
-    returns)
+    (tie.spec Inv-loop μ-loop loop-holds mul-loop div-r add-r loop-less loop-again returns)

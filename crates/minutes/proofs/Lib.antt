@@ -1,0 +1,5 @@
+pub mod Curve
+pub mod Entries
+pub mod Every
+pub mod Listed
+pub mod Single

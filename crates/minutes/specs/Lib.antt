@@ -1,0 +1,4 @@
+pub mod Entry
+pub mod Exact
+pub mod Inside
+pub mod Quadrant

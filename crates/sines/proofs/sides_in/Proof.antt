@@ -1,0 +1,38 @@
+-- `sides_in` meets its contract: the sizes are those of the folded angle and of what it leaves to 90 degrees, and the signs are by the halves of the circle.
+use borrow.Author.Needs.{needs}
+use Rattle.sines.proofs.Turns.{sides-are, no-sides}
+use Rattle.sines.proofs.sides_in.Statement.{statement}
+use Rattle.sines.proofs.sides_in.Tie as tie
+
+returns : tie.Need-returns
+returns c = search no-sides
+
+fold-requires : tie.Need-fold-requires
+fold-requires c κs = search needs
+
+quarter-in-requires : tie.Need-quarter-in-requires
+quarter-in-requires c κs = search needs
+
+sub-quarter-in : tie.Need-sub-quarter-in
+sub-quarter-in c = search needs
+
+quarter-in-requires-2 : tie.Need-quarter-in-requires-2
+quarter-in-requires-2 c κs = search needs
+
+behind-requires : tie.Need-behind-requires
+behind-requires c κs = search needs
+
+returns-2 : tie.Need-returns-2
+returns-2 c = search sides-are
+
+pub sides-in-spec : {M : Type 1} → statement M
+sides-in-spec =
+    tie.close
+    (tie.spec
+    returns
+    fold-requires
+    quarter-in-requires
+    sub-quarter-in
+    quarter-in-requires-2
+    behind-requires
+    returns-2)
