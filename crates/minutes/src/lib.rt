@@ -18,7 +18,7 @@ pub struct Pair {
     pub f: u32,
 }
 
-// i minutes behind the start of an arc.
+// i minutes behind the start of an arc, whose numbers have 2 ^ 24 parts to a unit.
 fn height(arc: Arc, i: u64) -> u32
     requires { ⌜ Small (arc .0) (arc .1) (arc .2) (arc .3) i ⌝ }
     ensures { λ r. ⌜ r ≡ Arc·height (arc .0) (arc .1) (arc .2) (arc .3) i ⌝ }
