@@ -1,5 +1,5 @@
 -- The sine and the cosine of one angle together, as sizes and signs: that the code's are those of the definition, and what a caller has of them.
-use mathlib.Core.Path.{_≡_, refl, sym, _∙_}
+use mathlib.Core.Path.{_≡_, refl, sym, _∙_, ap}
 use mathlib.Core.Bool.{Bool}
 use Prim.Native.Nat.{ℕ, _+_, _-_, _≤_, _<_}
 use native.Mathlib.Decide.{decLt}
@@ -8,8 +8,9 @@ use native.Mathlib.Omega.{arith}
 use borrow.Author.Tests.{lt-ltb, le-ltb}
 use lib.Dec.{ltb}
 use lib.IntN.{ℤ, pos, natAbs}
+use Rattle.answer.specs.Told.{given, refused}
 use Rattle.minutes.specs.Quadrant.{circle, folded, turned, ahead}
-use Rattle.sines.specs.Sine.{quarterBy, sineBy, cosineBy, sidesBy, turnedBy}
+use Rattle.sines.specs.Sine.{quarterBy, sineBy, cosineBy, ofAngle, sidesBy, turnedBy}
 use Rattle.sines.specs.declared.Sides.{Sides}
 use Rattle.sines.specs.declared.Turned.the-variants.{Are, OutOfRange}
 use Rattle.sines.proofs.Own.{Entries, quarter-size, sine-size}
@@ -27,6 +28,18 @@ module _ (e : ℕ → ℤ) (a : ℕ) where
   unfolding sidesBy
   sides-are x m n back f g k b h =
       rw (lt-ltb a 12960000 h, ← size-is e a x m f g, ← size-is e (ahead a) (3240000 - x) n (rw f (sym (folded-ahead a h))) k, b)
+
+-- ---- and what is told of each
+module _ (a : ℕ) where
+  pub no-angle : (z : ℤ) → 12960000 ≤ a → refused 4 0 ≡ ofAngle a z
+  no-angle z h = rw (le-ltb a 12960000 h)
+
+  module _ (e : ℕ → ℤ) (x n : ℕ) (f : x ≡ folded a) (h : a < 12960000) where
+    pub sine-given : pos n ≡ quarterBy e x → given (turned (ltb 6480000 a) (pos n)) ≡ ofAngle a (sineBy e a)
+    sine-given g = rw (lt-ltb a 12960000 h) (ap given (sine-is e a x n f g (ltb 6480000 a) refl))
+
+    pub cosine-given : (back : Bool) → pos n ≡ quarterBy e (3240000 - x) → back ≡ ltb 6480000 (ahead a) → given (turned back (pos n)) ≡ ofAngle a (cosineBy e a)
+    cosine-given back g b = rw (lt-ltb a 12960000 h) (ap given (sine-is e (ahead a) (3240000 - x) n (rw f (sym (folded-ahead a h))) g back b))
 
 -- the size with the sign of its half of the circle is the sine again, since no entry is negative
 signed-again : (e : ℕ → ℤ) → Entries e → (a : ℕ) → a < circle → turned (ltb 6480000 a) (pos (natAbs (sineBy e a))) ≡ sineBy e a

@@ -6,9 +6,9 @@ use lib.Dec.{ltb}
 use lib.ListN.{length, getD}
 use lib.IntN.{ℤ, pos, natAbs, _+ℤ_, _-ℤ_, _*ℤ_}
 use Rattle.whole.specs.Nearest.{nearest}
-use Rattle.answer.specs.Told.{Told, inRange}
+use Rattle.answer.specs.Told.{Told, given, refused, inRange}
 use Rattle.minutes.specs.Entry.{entry}
-use Rattle.minutes.specs.Quadrant.{circle, around, ahead}
+use Rattle.minutes.specs.Quadrant.{circle, turned, around, ahead}
 use Rattle.sines.specs.declared.Sides.{Sides}
 use Rattle.sines.specs.declared.Turned.{Turned}
 use Rattle.sines.specs.declared.Turned.the-variants.{Are, OutOfRange}
@@ -45,6 +45,15 @@ sidesBy e a =
 -- both, or the refusal
 abbrev pub turnedBy : (ℕ → ℤ) → ℕ → Turned
 turnedBy e a = cond (ltb a circle) (Are (sidesBy e a)) OutOfRange
+
+-- what each case tells of the sine, and of the cosine: the size with its sign
+abbrev pub toldSine : Turned → Told
+toldSine (Are s) = given (turned (s .past) (pos (s .sine)))
+toldSine OutOfRange = refused 4 0
+
+abbrev pub toldCosine : Turned → Told
+toldCosine (Are s) = given (turned (s .back) (pos (s .cosine)))
+toldCosine OutOfRange = refused 4 0
 
 -- "Every sine must be shown within 20 units of the ninth decimal of the exact one"
 abbrev pub units : ℕ

@@ -12,7 +12,7 @@ ghost use lib.IntN.{pos, natAbs};
 ghost use Rattle.answer.specs.Told.{told};
 ghost use Rattle.minutes.specs.Quadrant.{folded, turned, ahead};
 ghost use Rattle.minutes.specs.Entry.{Table, entry};
-ghost use Rattle.sines.specs.Sine.{between as Sine·between, quarterBy, entryIn, sineBy, cosineBy, ofAngle, turnedBy};
+ghost use Rattle.sines.specs.Sine.{between as Sine·between, quarterBy, entryIn, sineBy, cosineBy, ofAngle, turnedBy, toldSine, toldCosine};
 
 // The sine and the cosine of an angle: their sizes, and whether each is negative, the sine past 180 degrees, the cosine between 90 and 270.
 pub struct Sides {
@@ -134,7 +134,9 @@ fn signed(size: u32, negative: bool) -> Whole
 
 // The sine and the cosine of an angle in a lent list, whatever the list holds. The angle is folded once: the cosine's is what is left to 90 degrees.
 pub fn sides_in(table: &[u32], angle: u32) -> Turned
-    ensures { λ r. ⌜ r ≡ turnedBy (entryIn (now (table .entry))) angle ⌝ }
+    ensures is { λ r. ⌜ r ≡ turnedBy (entryIn (now (table .entry))) angle ⌝ }
+    ensures sine { λ r. ⌜ toldSine r ≡ ofAngle angle (sineBy (entryIn (now (table .entry))) angle) ⌝ }
+    ensures cosine { λ r. ⌜ toldCosine r ≡ ofAngle angle (cosineBy (entryIn (now (table .entry))) angle) ⌝ }
 {
     if 12960000 <= angle {
         return Turned::OutOfRange;

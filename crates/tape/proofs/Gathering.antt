@@ -15,7 +15,7 @@ use Rattle.whole.specs.Filled.{filled}
 use Rattle.whole.specs.declared.Whole.{Whole}
 use Rattle.tape.specs.Bytes.{two, four, num, meant, twosComplement}
 use Rattle.tape.specs.Record.{Rec, rec, bodyOf, numbersOf, fieldsOf, table}
-use Rattle.tape.specs.Tape.{firstOf, stepOf, walk, start, readingOf, recordsFrom}
+use Rattle.tape.specs.Tape.{firstOf, stepOf, walk, start, readingOf, recordsFrom, told}
 use Rattle.tape.specs.Fields.{Fields, fieldsOf as named, nothing, number, putIn, gathered, isRow, scaleOf, withScale, controlOf, takenOf}
 use Rattle.tape.specs.declared.State.{State}
 use Rattle.tape.specs.declared.Step.the-variants.{Next}
@@ -366,3 +366,10 @@ module _ (s : List ℕ) (r : Reading) (e : r ≡ readingOf s) where
   pub taken-refused : (n p : ℕ) → r ≡ Refused n p → taken.Refused n p ≡ takenOf s
   unfolding takenOf
   taken-refused n p h = rw (← e, h)
+
+  -- and what is told of it
+  pub told-reads : (a : State) → r ≡ Reads a → record { number = 0; place = 0 } ≡ told (readingOf s)
+  told-reads a h = rw (← e, h)
+
+  pub told-refused : (n p : ℕ) → r ≡ Refused n p → record { number = n; place = p } ≡ told (readingOf s)
+  told-refused n p h = rw (← e, h)

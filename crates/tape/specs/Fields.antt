@@ -15,7 +15,7 @@ use Rattle.tape.specs.declared.Taken.the-variants as taken
 use Rattle.tape.specs.declared.Reading.{Reading}
 use Rattle.tape.specs.declared.Reading.the-variants as reading
 use Rattle.tape.specs.Record.{Rec, bodyOf}
-use Rattle.tape.specs.Tape.{readingOf, recordsOf}
+use Rattle.tape.specs.Tape.{readingOf, recordsOf, Told}
 
 -- the angle right at station k turns to leg k; that at the last station is the closing one. place is the close's first byte
 pub record Fields : Type 0 where
@@ -132,6 +132,11 @@ takenIf (reading.Refused n p) f = taken.Refused n p
 
 unfoldable pub takenOf : List ℕ → Taken
 takenOf tape = takenIf (readingOf tape) (fieldsOf tape)
+
+-- what each case tells
+abbrev pub toldTaken : Taken → Told
+toldTaken (taken.Reads c) = record { number = 0; place = 0 }
+toldTaken (taken.Refused n p) = record { number = n; place = p }
 
 -- a tape that reads
 pub record DoesRead (tape : List ℕ) : Type 0 where

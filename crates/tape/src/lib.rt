@@ -8,7 +8,7 @@ ghost use lib.ListN.{length, take, drop};
 ghost use Rattle.tape.specs.Bytes.{fourAt};
 ghost use Rattle.tape.specs.Record.{goodRecord, bytesOfRecord};
 ghost use Rattle.tape.specs.Tape.{readingOf, told};
-ghost use Rattle.tape.specs.Fields.{takenOf};
+ghost use Rattle.tape.specs.Fields.{takenOf, toldTaken};
 ghost use Rattle.tape.specs.Write.{Wrote};
 
 // A record, with its fields as the paper names them.
@@ -111,7 +111,8 @@ pub fn read(tape: &[u8]) -> Reading
 
 // The reading of any tape, and the fields of one that reads. Whoever walks its legs takes their angles and distances by `four`.
 pub fn take(tape: &[u8]) -> Taken
-    ensures { λ r. ⌜ r ≡ takenOf (now (tape .entry)) ⌝ }
+    ensures is { λ r. ⌜ r ≡ takenOf (now (tape .entry)) ⌝ }
+    ensures told { λ r. ⌜ toldTaken r ≡ told (readingOf (now (tape .entry))) ⌝ }
 {
     match order::read_all(tape) {
         Reading::Reads(last) => Taken::Reads(taking::control(tape, last)),

@@ -1,11 +1,11 @@
 -- `sides_in` meets its contract: the sizes are those of the folded angle and of what it leaves to 90 degrees, and the signs are by the halves of the circle.
 use borrow.Author.Needs.{needs}
-use Rattle.sines.proofs.Turns.{sides-are, no-sides}
+use Rattle.sines.proofs.Turns.{sides-are, no-sides, no-angle, sine-given, cosine-given}
 use Rattle.sines.proofs.sides_in.Statement.{statement}
 use Rattle.sines.proofs.sides_in.Tie as tie
 
 returns : tie.Need-returns
-returns c = search no-sides
+returns c = (search no-sides, (search no-angle, search no-angle))
 
 fold-requires : tie.Need-fold-requires
 fold-requires c κs = search needs
@@ -23,7 +23,7 @@ behind-requires : tie.Need-behind-requires
 behind-requires c κs = search needs
 
 returns-2 : tie.Need-returns-2
-returns-2 c = search sides-are
+returns-2 c = (search sides-are, (search sine-given, search cosine-given))
 
 pub sides-in-spec : {M : Type 1} → statement M
 sides-in-spec =
