@@ -4,8 +4,7 @@ use Prim.Native.Nat.{ℕ, zero, suc, _+_, _*_, _^_, _≤_, _<_}
 use native.Mathlib.Omega.{arith}
 use native.Mathlib.Numerals.{add-one}
 use native.Mathlib.Decide.{ℕ-discrete}
-use native.Mathlib.Nat.{mod-lt}
-use mathlib.Core.Path.{_≡_, refl, _∙_, ap, subst}
+use mathlib.Core.Path.{_≡_, _∙_, ap, subst}
 use mathlib.Core.List.{List, [], _∷_}
 use lib.ListN.{length, getD, set}
 use lib.Seq.{getD-set-same, getD-set-other}
@@ -16,14 +15,14 @@ use Rattle.whole.proofs.Rounding.{half-up-most, nearest-most}
 use Rattle.answer.specs.declared.Count.{Count}
 use Rattle.answer.specs.Told.{toldCount}
 use Rattle.answer.proofs.Telling.{value-given, both, inside-yes}
-use Rattle.minutes.specs.Quadrant.{circle, ahead}
+use Rattle.minutes.specs.Quadrant.{circle}
 use Rattle.steps.specs.Course.{toldOf, Axis, north, east, sineAlong, move, course, courseStep}
 use Rattle.sines.specs.Sine.{entryIn}
 use Rattle.steps.specs.declared.course.Moves.{Moves}
-use Rattle.sines.proofs.Own.{lent-entries, Entries, sine-size}
+use Rattle.sines.proofs.Own.{lent-entries, Entries}
 use Rattle.steps.specs.Distance.{grid, gridStep}
 use Rattle.steps.proofs.Laws.{product-most}
-use Rattle.steps.proofs.Moving.{move-given}
+use Rattle.steps.proofs.Moving.{move-given, along-most}
 use Rattle.desk.specs.Line.{run, preliminary}
 use Rattle.desk.specs.Traverse.{along, longOf, azimuthOf, line, at}
 use Rattle.desk.specs.Inside.{withLegs, LegSound, Sound, Small, Slight, Begun, Added, Advanced, Stands, wordAt, Ran}
@@ -47,17 +46,12 @@ module _ (distance factor : ℕ) (near : distance ≤ 20000000) (most : factor �
 
 -- ---- the latitude or departure of a leg, by the entries of any table
 module _ (e : ℕ → ℤ) (entries : Entries e) where
-  sine-most : (axis : Axis) (azimuth : ℕ) → azimuth < circle → natAbs (sineAlong e axis azimuth) ≤ 1000000000
-  unfolding sineAlong
-  sine-most north azimuth h = sine-size e entries (ahead azimuth) (mod-lt (azimuth + 3240000) (omega arith))
-  sine-most east azimuth h = sine-size e entries azimuth h
-
   course-most : (axis : Axis) (distance azimuth : ℕ) → distance ≤ 20100000 → azimuth < circle → natAbs (course e axis distance azimuth) ≤ 2010000
   unfolding move
   course-most axis distance azimuth near turned =
       let s = sineAlong e axis azimuth in
       nearest-most (negℤ (s *ℤ pos distance)) 10000000000 2010000 (omega arith)
-      (rw (abs-neg (s *ℤ pos distance), abs-mul s (pos distance)) (omega (arith, product-most (natAbs s) distance 1000000000 20100000 (sine-most axis azimuth turned) near)))
+      (rw (abs-neg (s *ℤ pos distance), abs-mul s (pos distance)) (omega (arith, product-most (natAbs s) distance 1000000000 20100000 (along-most e entries axis azimuth turned) near)))
 
 -- so a move that a lent table gives is slight
 pub course-small : (table : List ℕ) (axis : Axis) (distance azimuth : ℕ) (m : Moves) → distance ≤ 20040020 → azimuth < circle

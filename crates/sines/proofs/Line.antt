@@ -1,16 +1,17 @@
--- The straight line between two entries: at a whole minute it is the entry, and it never leaves what lies between the two.
+-- The straight line between two entries: at either end it is the entry there, so that a whole minute may be counted from the one before; and it never
+-- leaves what lies between the two.
 use mathlib.Core.Path.{_≡_, sym, _∙_, ap}
 use mathlib.Core.List.{[], _∷_}
-use Prim.Native.Nat.{ℕ, _+_, _-_, _*_, _≤_}
+use Prim.Native.Nat.{ℕ, _+_, _-_, _*_, _/_, _%_, _≤_}
 use native.Mathlib.Nat.{mul-le-mul, mul-le-mul-left}
-use native.Mathlib.Decide.{decLe}
+use native.Mathlib.Decide.{decLe, decLt}
 use native.Mathlib.Omega.{arith}
 use lib.IntN.{ℤ, pos, negℤ, _+ℤ_, _-ℤ_, _*ℤ_, +ℤ-idr, *ℤ-zero}
 use Rattle.whole.specs.Nearest.{nearest, halfUp}
-use Rattle.whole.proofs.Diff.{ints, same}
+use Rattle.whole.proofs.Diff.{vars, ints, same}
 use Rattle.whole.proofs.Ring.{ring, exps}
-use Rattle.whole.proofs.Rounding.{nearest-neg, nearest-zero, half-up-most}
-use Rattle.sines.specs.Sine.{between}
+use Rattle.whole.proofs.Rounding.{nearest-neg, nearest-multiple, nearest-zero, half-up-most}
+use Rattle.sines.specs.Sine.{between, quarterBy}
 
 -- "at r = 0 it is entry m itself"
 pub at-minute : (e f : ℤ) → between e f 0 ≡ e
@@ -19,6 +20,24 @@ at-minute e f = ap (λ (q : ℤ). e +ℤ q) nothing ∙ +ℤ-idr e
   where
     nothing : nearest ((f -ℤ e) *ℤ pos 0) 600 ≡ pos 0
     nothing = rw (*ℤ-zero (f -ℤ e)) (nearest-zero 600 (omega arith))
+
+-- and at r = 600 it is the next one
+at-next : (e f : ℤ) → between e f 600 ≡ f
+unfolding between
+at-next e f = let v = vars (e ∷ f ∷ []) in rw (nearest-multiple (f -ℤ e) 600 (omega arith)) (same (search ints) (omega arith))
+
+-- so the sine of an angle of the first quadrant is the same from any minute that lies no more than 600 tenths back
+pub from-minute : (e : ℕ → ℤ) (a m r : ℕ) → a ≡ 600 * m + r → r ≤ 600 → quarterBy e a ≡ between (e m) (e (m + 1)) r
+unfolding quarterBy
+from-minute e a m r i h =
+    elim (decLt r 600) [
+      | yes j ↦ let q : a / 600 ≡ m = omega arith in let s : a % 600 ≡ r = omega arith in rw (q, s)
+      | no j ↦
+          let q : a / 600 ≡ m + 1 = omega arith in
+          let s : a % 600 ≡ 0 = omega arith in
+          let z : r ≡ 600 = omega arith in
+          rw (q, s, z, at-minute (e (m + 1)) (e (m + 1 + 1)), at-next (e m) (e (m + 1)))
+    ]
 
 -- a step of r of 600 parts over d is at most d
 part : (d r : ℕ) → r ≤ 600 → halfUp (d * r) 600 ≤ d

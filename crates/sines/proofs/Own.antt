@@ -2,20 +2,22 @@
 -- the desk's own table, lent, has the paper's entries, as an empty list has.
 use mathlib.Core.Path.{_≡_, refl, sym, _∙_, ap, fun-ext}
 use mathlib.Core.List.{List, []}
-use Prim.Native.Nat.{ℕ, _+_, _/_, _%_, _≤_, _<_, min}
-use native.Mathlib.Decide.{decLt, ℕ-discrete}
+use Prim.Native.Nat.{ℕ, _+_, _*_, _/_, _%_, _≤_, _<_, min}
+use native.Mathlib.Decide.{decLe, decLt, ℕ-discrete}
 use native.Mathlib.Omega.{arith}
 use native.Mathlib.Nat.{min-eq-left, min-le-right}
-use borrow.Author.Tests.{lt-ltb, le-ltb}
+use borrow.Author.Tests.{le-leb, lt-leb}
+use lib.Dec.{leb}
 use lib.ListN.{length, getD}
 use lib.IntN.{ℤ, pos, natAbs}
 use Rattle.answer.specs.Told.{told}
 use Rattle.answer.specs.declared.Amount.{Amount}
+use Rattle.answer.proofs.Telling.{not-second}
 use Rattle.minutes.specs.Quadrant.{circle, folded}
 use Rattle.minutes.specs.Entry.{Table, entry}
 use Rattle.minutes.proofs.Entries.{entry-is}
 use Rattle.sines.specs.Sine.{between, quarterBy, entryIn, sineBy, cosineBy, ofAngle}
-use Rattle.sines.proofs.Line.{at-minute, between-most}
+use Rattle.sines.proofs.Line.{at-minute, from-minute, between-most}
 use Rattle.sines.proofs.Quadrants.{folded-most, size-is}
 
 -- ---- the entries, by the rule and in any lent table
@@ -25,51 +27,63 @@ pub record Entries (e : ℕ → ℤ) : Type 0 where
 pub rule-entries : Entries entry
 rule-entries = record { each = entry-is }
 
--- ---- of a lent list: what it has counts up to 1, and the rest is the rule's
+-- ---- of a lent list: one that is long enough for a table has those up to 90 degrees, which count up to 1, and the rest is the rule's
 module _ (t : List ℕ) (m : ℕ) where
-  entry-there : m < length t → entryIn t m ≡ pos (min (getD t m 0) 1000000000)
+  entry-there : 5401 ≤ length t → m ≤ 5400 → entryIn t m ≡ pos (min (getD t m 0) 1000000000)
   unfolding entryIn
-  entry-there h = rw (lt-ltb m (length t) h)
+  entry-there h i = rw (le-leb 5401 (length t) h, le-leb m 5400 i)
 
-  entry-missing : length t ≤ m → entryIn t m ≡ entry m
+  too-short : length t < 5401 → entryIn t m ≡ entry m
   unfolding entryIn
-  entry-missing h = rw (le-ltb m (length t) h)
+  too-short h = rw (lt-leb 5401 (length t) h)
+
+  past-last : 5400 < m → entryIn t m ≡ entry m
+  unfolding entryIn
+  past-last h = rw (not-second (leb 5401 (length t)) (leb m 5400) (lt-leb m 5400 h))
 
 pub lent-entries : (t : List ℕ) → Entries (entryIn t)
 lent-entries t = record { each = each }
   where
     each : (m : ℕ) → m ≤ 5400 → (n : ℕ) × (entryIn t m ≡ pos n) × (n ≤ 1000000000)
     each m h =
-        elim (decLt m (length t)) [
-          | yes i ↦ (min (getD t m 0) 1000000000, entry-there t m i, min-le-right (getD t m 0) 1000000000)
-          | no i ↦ let e = entry-is m h in (e .0, entry-missing t m (omega arith) ∙ e .1, e .2)
+        elim (decLt (length t) 5401) [
+          | yes i ↦ rw (too-short t m i) (entry-is m h)
+          | no i ↦ (min (getD t m 0) 1000000000, entry-there t m (omega arith) h, min-le-right (getD t m 0) 1000000000)
         ]
 
--- an empty list lacks every entry
+-- an empty list lends none
 pub no-entries : entryIn [] ≡ entry
-no-entries = fun-ext (λ m. entry-missing [] m (omega arith))
+no-entries = fun-ext (λ m. too-short [] m (omega arith))
 
 pub own-entries : (t : List ℕ) → Table t → entryIn t ≡ entry
 own-entries t right = fun-ext same
   where
     same : (m : ℕ) → entryIn t m ≡ entry m
     same m =
-        elim (decLt m (length t)) [
+        elim (decLe m 5400) [
           | yes h ↦
-              let low : m ≤ 5400 = omega (arith, right .count) in
-              let e = entry-is m low in
-              let f : getD t m 0 ≡ e .0 = ap natAbs (right .each m low ∙ e .1) in
-              entry-there t m h ∙ rw (f, min-eq-left {n = e .0} {m = 1000000000} (e .2)) (sym (e .1))
-          | no h ↦ entry-missing t m (omega arith)
+              let e = entry-is m h in
+              let f : getD t m 0 ≡ e .0 = ap natAbs (right .each m h ∙ e .1) in
+              entry-there t m (omega (arith, right .count)) h ∙ rw (f, min-eq-left {n = e .0} {m = 1000000000} (e .2)) (sym (e .1))
+          | no h ↦ past-last t m (omega arith)
         ]
 
--- ---- a pair of entries as the code takes it
-module _ (t : List ℕ) (m n : ℕ) where
-  pub counted-is : n ≡ min (getD t m 0) 1000000000 → m < length t → pos n ≡ entryIn t m
-  counted-is f h = ap pos f ∙ sym (entry-there t m h)
+-- ---- the line between two entries as the code takes them
+module _ (m r x y v : ℕ) (g : pos v ≡ between (pos x) (pos y) r) where
+  pub own-line : pos x ≡ entry (min m 5400) → pos y ≡ entry (min (m + 1) 5400) → m ≤ 5399 → pos v ≡ between (entry m) (entry (m + 1)) r
+  own-line e f h = let i : min m 5400 ≡ m = omega arith in let j : min (m + 1) 5400 ≡ m + 1 = omega arith in g ∙ rw (e, f, i, j)
 
-  pub own-is : pos n ≡ entry (min m 5400) → m ≤ 5400 → length t ≤ m → pos n ≡ entryIn t m
-  own-is f i h = f ∙ rw (min-eq-left {n = m} {m = 5400} i) (sym (entry-missing t m h))
+  pub lent-line : (t : List ℕ) → x ≡ min (getD t m 0) 1000000000 → y ≡ min (getD t (m + 1) 0) 1000000000 → 5401 ≤ length t → m ≤ 5399
+      → pos v ≡ between (entryIn t m) (entryIn t (m + 1)) r
+  lent-line t e f h i = rw (entry-there t m h (omega arith), entry-there t (m + 1) h (omega arith), ← e, ← f) g
+
+-- and the sine of an angle, r tenths past minute m
+module _ (t : List ℕ) (a m r v : ℕ) (past : a ≡ 600 * m + r) (h : r ≤ 600) where
+  pub own-quarter : pos v ≡ between (entry m) (entry (m + 1)) r → length t < 5401 → pos v ≡ quarterBy (entryIn t) a
+  own-quarter g i = rw (from-minute (entryIn t) a m r past h, too-short t m i, too-short t (m + 1) i) g
+
+  pub lent-quarter : pos v ≡ between (entryIn t m) (entryIn t (m + 1)) r → pos v ≡ quarterBy (entryIn t) a
+  lent-quarter g = g ∙ sym (from-minute (entryIn t) a m r past h)
 
 -- ---- so the steps that lend an empty list tell the sine and the cosine
 module _ (a : ℕ) (r : Amount) where

@@ -1,8 +1,8 @@
 -- The four quadrants: where each angle folds to, and what a sine carried round the circle is in each half.
 use mathlib.Core.Path.{_≡_, refl, sym, _∙_}
 use mathlib.Core.Bool.{Bool, true, false}
-use Prim.Native.Nat.{ℕ, _+_, _-_, _/_, _%_, _≤_, _<_}
-use native.Mathlib.Decide.{decLe, decLt, ℕ-discrete}
+use Prim.Native.Nat.{ℕ, _-_, _≤_, _<_}
+use native.Mathlib.Decide.{decLe, decLt}
 use native.Mathlib.Omega.{arith}
 use borrow.Author.Tests.{le-leb, lt-leb, lt-ltb, le-ltb}
 use lib.Dec.{ltb}
@@ -13,8 +13,7 @@ use Rattle.answer.specs.Told.{told}
 use Rattle.answer.specs.declared.Amount.the-variants.{Is, OutOfRange}
 use Rattle.answer.proofs.Telling.{tells, refuses}
 use Rattle.minutes.specs.Quadrant.{circle, folded, turned, around, ahead}
-use Rattle.sines.specs.Sine.{between, quarterBy, sineBy, cosineBy, ofAngle}
-use Rattle.sines.proofs.Line.{at-minute}
+use Rattle.sines.specs.Sine.{quarterBy, sineBy, cosineBy, ofAngle}
 
 -- ---- folding
 pub first : (a : ℕ) → a ≤ 3240000 → a ≡ folded a
@@ -91,15 +90,6 @@ module _ (a : ℕ) (h : a < circle) where
 
 -- ---- by any entries
 module _ (e : ℕ → ℤ) where
-  -- behind 90 degrees there may be anything: at a whole minute the next entry has no weight
-  pub quarter-is : (a v x y : ℕ) → a ≤ 3240000 → pos v ≡ between (pos x) (pos y) (a % 600) → pos x ≡ e (a / 600) → (a / 600 < 5400 → pos y ≡ e (a / 600 + 1)) → pos v ≡ quarterBy e a
-  unfolding quarterBy
-  quarter-is a v x y h is here next =
-      elim (ℕ-discrete (a % 600) 0) [
-        | yes z ↦ is ∙ rw (here, z) (at-minute (e (a / 600)) (pos y) ∙ sym (at-minute (e (a / 600)) (e (a / 600 + 1))))
-        | no z ↦ is ∙ rw (here, next (omega arith))
-      ]
-
   -- a sine by its size and its half of the circle
   module _ (a x n : ℕ) (f : x ≡ folded a) (g : pos n ≡ quarterBy e x) where
     pub sine-is : (past : Bool) → past ≡ ltb 6480000 a → turned past (pos n) ≡ sineBy e a

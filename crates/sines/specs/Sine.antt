@@ -1,8 +1,8 @@
 -- Paper 01, "Sines": the interpolation between the entries of the table, and what the steps answer.
-use mathlib.Core.Bool.{cond}
+use mathlib.Core.Bool.{cond, _&&_}
 use mathlib.Core.List.{List}
 use Prim.Native.Nat.{ℕ, _+_, _/_, _%_, min}
-use lib.Dec.{ltb}
+use lib.Dec.{leb, ltb}
 use lib.ListN.{length, getD}
 use lib.IntN.{ℤ, pos, natAbs, _+ℤ_, _-ℤ_, _*ℤ_}
 use Rattle.whole.specs.Nearest.{nearest}
@@ -28,10 +28,10 @@ sineBy e a = around (quarterBy e) a
 abbrev pub cosineBy : (ℕ → ℤ) → ℕ → ℤ
 cosineBy e a = sineBy e (ahead a)
 
--- the entries of any list that is lent for a table: one above 1 counts as 1, so that no sine is above 1, and one that the list does not have is the
--- paper's. So an empty list stands for the paper's table, and so does a list that holds it
+-- the entries of any list that is lent for a table: one above 1 counts as 1, so that no sine is above 1. A list too short for a table lends none, and
+-- all are the paper's, as are those behind 90 degrees. So an empty list stands for the paper's table, and so does a list that holds it
 unfoldable pub entryIn : List ℕ → ℕ → ℤ
-entryIn t m = cond (ltb m (length t)) (pos (min (getD t m 0) 1000000000)) (entry m)
+entryIn t m = cond (leb 5401 (length t) && leb m 5400) (pos (min (getD t m 0) 1000000000)) (entry m)
 
 -- "An angle of 12,960,000 or more is refused (4)"
 abbrev pub ofAngle : ℕ → ℤ → Told

@@ -1,13 +1,13 @@
 // Sines and cosines by the table of whole minutes, in units of the ninth decimal; angles in tenths of a second.
 //
-// An entry of the table costs some instructions, so whoever wants many sines takes the table once and lends it. Any list may be lent: an entry that it does
-// not have is the paper's. Sizes are unsigned, and a sign is put on once.
+// An entry of the table costs some instructions, so whoever wants many sines takes the table once and lends it. Any list may be lent: one that is too short
+// for a table lends nothing, and the entries are the desk's own. Sizes are unsigned, and a sign is put on once.
 use answer::Amount;
-use minutes::Pair;
 use whole::Whole;
 ghost use mathlib.Core.Path.{_≡_};
-ghost use Prim.Native.Nat.{_+_, _<_, _≤_, _^_, min};
+ghost use Prim.Native.Nat.{_+_, _-_, _*_, _<_, _≤_, _^_, min};
 ghost use lib.Dec.{ltb};
+ghost use lib.ListN.{length};
 ghost use lib.IntN.{pos, natAbs};
 ghost use Rattle.answer.specs.Told.{told};
 ghost use Rattle.minutes.specs.Quadrant.{folded, turned, ahead};
@@ -20,6 +20,12 @@ pub struct Sides {
     pub past: bool,
     pub cosine: u32,
     pub back: bool,
+}
+
+// The sizes alone.
+struct Sizes {
+    sine: u32,
+    cosine: u32,
 }
 
 // Both of an angle, or it was no angle of the circle.
@@ -45,33 +51,9 @@ fn counted(e: u32) -> u32
     e
 }
 
-// What the entries of a minute and of the next one count as in a lent list. Behind 90 degrees no angle asks for one with any weight, so only its size is
-// promised.
-fn pair_in(table: &[u32], m: usize) -> Pair
-    requires { ⌜ m ≤ 5400 ⌝ }
-    ensures here { λ p. ⌜ pos (p .e) ≡ entryIn (now (table .entry)) m ⌝ }
-    ensures next { λ p. ⌜ (m < 5400 → pos (p .f) ≡ entryIn (now (table .entry)) (m + 1)) ⌝ }
-    ensures most { λ p. ⌜ (p .e ≤ 1000000000) × (p .f ≤ 1000000000) ⌝ }
-{
-    if m + 1 < table.len() {
-        return Pair {
-            e: counted(table[m]),
-            f: counted(table[m + 1]),
-        };
-    }
-    let own = minutes::pair_at(m);
-    if m < table.len() {
-        return Pair {
-            e: counted(table[m]),
-            f: own.f,
-        };
-    }
-    own
-}
-
 // r tenths past a minute whose entry is e, where the next one's is f: by a straight line, to the nearest.
 fn between(e: u32, f: u32, r: u32) -> u32
-    requires { ⌜ r < 600 ⌝ }
+    requires { ⌜ r ≤ 600 ⌝ }
     requires { ⌜ (e ≤ 1000000000) × (f ≤ 1000000000) ⌝ }
     ensures is { λ v. ⌜ pos v ≡ Sine·between (pos e) (pos f) r ⌝ }
     ensures most { λ v. ⌜ v ≤ 1000000000 ⌝ }
@@ -82,14 +64,69 @@ fn between(e: u32, f: u32, r: u32) -> u32
     e - whole::half_up((e - f) as u64 * r as u64, 600) as u32
 }
 
-// The sine of an angle of the first quadrant in a lent list. At a whole minute the next entry has no weight.
+// The sine r tenths past a minute, by the desk's own entries.
+fn unlent(m: usize, r: u32) -> u32
+    requires { ⌜ (m ≤ 5399) × (r ≤ 600) ⌝ }
+    ensures is { λ v. ⌜ pos v ≡ Sine·between (entry m) (entry (m + 1)) r ⌝ }
+    ensures most { λ v. ⌜ v ≤ 1000000000 ⌝ }
+{
+    let p = minutes::pair_at(m);
+    between(p.e, p.f, r)
+}
+
+// The same by the entries of a lent table.
+fn lent(table: &[u32], m: usize, r: u32) -> u32
+    requires { ⌜ 5401 ≤ length (now table) ⌝ }
+    requires { ⌜ (m ≤ 5399) × (r ≤ 600) ⌝ }
+    ensures is { λ v. ⌜ pos v ≡ Sine·between (entryIn (now (table .entry)) m) (entryIn (now (table .entry)) (m + 1)) r ⌝ }
+    ensures most { λ v. ⌜ v ≤ 1000000000 ⌝ }
+{
+    between(counted(table[m]), counted(table[m + 1]), r)
+}
+
+// The minute from which an angle of the first quadrant is counted. At 90 degrees it is the one before, 600 tenths back, so that there is always a next.
+fn minute(a: u32) -> u32
+    requires { ⌜ a ≤ 3240000 ⌝ }
+    ensures { λ m. ⌜ (m ≤ 5399) × (600 * m ≤ a) × (a ≤ 600 * m + 600) ⌝ }
+{
+    if a < 3240000 {
+        return a / 600;
+    }
+    5399
+}
+
+// The sine of an angle of the first quadrant in a lent list.
 fn quarter_in(table: &[u32], a: u32) -> u32
     requires { ⌜ a ≤ 3240000 ⌝ }
     ensures is { λ v. ⌜ pos v ≡ quarterBy (entryIn (now (table .entry))) a ⌝ }
     ensures most { λ v. ⌜ v ≤ 1000000000 ⌝ }
 {
-    let p = pair_in(table, (a / 600) as usize);
-    between(p.e, p.f, a % 600)
+    let m = minute(a);
+    let r = a - 600 * m;
+    if table.len() < 5401 {
+        return unlent(m as usize, r);
+    }
+    lent(table, m as usize, r)
+}
+
+// Its sine and its cosine, whose angle is what is left to 90 degrees: the same tenths, counted back from the other end of the table.
+fn both_in(table: &[u32], a: u32) -> Sizes
+    requires { ⌜ a ≤ 3240000 ⌝ }
+    ensures sine { λ s. ⌜ pos (s .sine) ≡ quarterBy (entryIn (now (table .entry))) a ⌝ }
+    ensures cosine { λ s. ⌜ pos (s .cosine) ≡ quarterBy (entryIn (now (table .entry))) (3240000 - a) ⌝ }
+{
+    let m = minute(a);
+    let r = a - 600 * m;
+    if table.len() < 5401 {
+        return Sizes {
+            sine: unlent(m as usize, r),
+            cosine: unlent((5399 - m) as usize, 600 - r),
+        };
+    }
+    Sizes {
+        sine: lent(table, m as usize, r),
+        cosine: lent(table, (5399 - m) as usize, 600 - r),
+    }
 }
 
 // The angle of the first quadrant whose sine has the same size: past 180 degrees the sizes run as from 0 on, and past 90 they run back.
@@ -141,11 +178,11 @@ pub fn sides_in(table: &[u32], angle: u32) -> Turned
     if 12960000 <= angle {
         return Turned::OutOfRange;
     }
-    let a = fold(angle);
+    let sizes = both_in(table, fold(angle));
     Turned::Are(Sides {
-        sine: quarter_in(table, a),
+        sine: sizes.sine,
         past: 6480000 < angle,
-        cosine: quarter_in(table, 3240000 - a),
+        cosine: sizes.cosine,
         back: behind(angle),
     })
 }

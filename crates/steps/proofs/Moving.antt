@@ -1,28 +1,33 @@
--- Latitudes and departures by the sizes and signs of a sine and a cosine, for both axes alike; and that by an empty list they are the paper's.
+-- Latitudes and departures by the sizes and signs of a sine and a cosine, for both axes alike, at once and one by one; and that by an empty list they are
+-- the paper's.
 use mathlib.Core.Path.{_≡_, refl, sym, _∙_, ap}
-use mathlib.Core.Bool.{Bool, true, false}
+use mathlib.Core.Bool.{Bool, true, false, _&&_}
 use mathlib.Core.List.{List, [], _∷_}
-use Prim.Native.Nat.{ℕ, _*_, _≤_, _<_}
+use Prim.Native.Nat.{ℕ, _+_, _*_, _≤_, _<_}
+use native.Mathlib.Decide.{decLt}
+use native.Mathlib.Nat.{mod-lt}
 use native.Mathlib.Omega.{arith}
 use borrow.Author.Tests.{le-leb, lt-leb, lt-ltb, le-ltb}
-use lib.Dec.{leb}
-use lib.IntN.{ℤ, pos, negℤ, _*ℤ_}
+use lib.Dec.{leb, ltb}
+use lib.Signed.{ltZ}
+use lib.IntN.{ℤ, pos, negsuc, negℤ, natAbs, _*ℤ_}
 use Rattle.whole.specs.Nearest.{nearest, halfUp}
 use Rattle.whole.specs.declared.Whole.{Whole}
 use Rattle.whole.proofs.Ring.{ring, exps}
 use Rattle.whole.proofs.Rounding.{nearest-neg}
-use Rattle.answer.specs.Told.{Told, told, given}
+use Rattle.answer.specs.Told.{told, given, inRange}
 use Rattle.answer.specs.declared.Amount.{Amount}
-use Rattle.answer.proofs.Telling.{value-given, both, not-second}
-use Rattle.minutes.specs.Quadrant.{circle, turned}
+use Rattle.answer.specs.declared.Amount.the-variants as amount
+use Rattle.answer.proofs.Telling.{tells, refuses, value-given, both, not-second}
+use Rattle.minutes.specs.Quadrant.{circle, turned, ahead}
 use Rattle.minutes.specs.Entry.{entry}
-use Rattle.sines.specs.Sine.{entryIn, turnedBy}
+use Rattle.sines.specs.Sine.{entryIn, ofAngle, turnedBy}
 use Rattle.sines.specs.declared.Sides.{Sides}
 use Rattle.sines.specs.declared.Turned.{Turned}
 use Rattle.sines.specs.declared.Turned.the-variants as turn
-use Rattle.sines.proofs.Own.{lent-entries, no-entries}
+use Rattle.sines.proofs.Own.{Entries, sine-size, lent-entries, no-entries}
 use Rattle.sines.proofs.Turns.{no-circle, in-circle, sine-most, cosine-most, sine-signed, cosine-signed}
-use Rattle.steps.specs.Course.{Axis, north, east, move, sineAlong, course, courseStep, toldOf}
+use Rattle.steps.specs.Course.{Axis, north, east, move, sineAlong, course, courseStep, moveTold, toldOf}
 use Rattle.steps.specs.declared.course.Moves.{Moves}
 use Rattle.steps.specs.declared.course.Moves.the-variants.{Are, OutOfRange}
 use Rattle.steps.proofs.Laws.{product-most}
@@ -83,6 +88,49 @@ module _ (t : List ℕ) (azimuth : ℕ) (r : Turned) (s : Sides) (g : r ≡ turn
 pub move-given : (e : ℕ → ℤ) (axis : Axis) (distance azimuth : ℕ) (r : Moves) → distance ≤ 20100000 → azimuth < circle → toldOf axis r ≡ courseStep e axis distance azimuth
     → toldOf axis r .value ≡ course e axis distance azimuth
 move-given e axis distance azimuth r near within g = value-given (toldOf axis r) _ _ g (both _ _ (le-leb distance 20100000 near) (lt-ltb azimuth circle within))
+
+-- ---- one move by a sine that was told, which is its size with its sign
+signed : (z : ℤ) → turned (ltZ z (pos 0)) (pos (natAbs z)) ≡ z
+unfolding turned
+signed (pos n) = rw (le-ltb n 0 (omega arith))
+signed (negsuc n) = refl
+
+module _ (distance : ℕ) (s : Amount) where
+  pub no-sine : s ≡ amount.OutOfRange → told amount.OutOfRange ≡ moveTold distance (told s)
+  unfolding told
+  no-sine f = rw f (refuses _ _ (not-second (leb distance 20100000) false refl))
+
+  module _ (w : Whole) (size : ℕ) (f : s ≡ amount.Is w) (g : size ≡ natAbs (w .v)) where
+    pub size-small : natAbs (told s .value) ≤ 1000000000 → size ≤ 1000000000
+    unfolding told
+    size-small h = rw g (rw f at h)
+
+    pub move-told : (v : Whole) (below : Bool) → v .v ≡ move distance (turned below (pos size)) → below ≡ ltZ (w .v) (pos 0) → distance ≤ 20100000
+        → told (amount.Is v) ≡ moveTold distance (told s)
+    unfolding told
+    move-told v below m b h = rw f (tells _ v _ (both _ _ (le-leb distance 20100000 h) refl) (m ∙ rw (b, g, signed (w .v))))
+
+-- no sine that counts along an axis is above 1
+pub along-most : (e : ℕ → ℤ) → Entries e → (axis : Axis) (azimuth : ℕ) → azimuth < circle → natAbs (sineAlong e axis azimuth) ≤ 1000000000
+unfolding sineAlong
+along-most e entries north azimuth h = sine-size e entries (ahead azimuth) (mod-lt (azimuth + 3240000) (omega arith))
+along-most e entries east azimuth h = sine-size e entries azimuth h
+
+-- and what a caller has who was told it
+module _ (t : List ℕ) (axis : Axis) (azimuth : ℕ) (s : Amount) (g : told s ≡ ofAngle azimuth (sineAlong (entryIn t) axis azimuth)) where
+  pub along-small : natAbs (told s .value) ≤ 1000000000
+  along-small =
+      elim (decLt azimuth circle) [
+        | yes h ↦ rw (value-given (told s) _ _ g (lt-ltb azimuth circle h)) (along-most (entryIn t) (lent-entries t) axis azimuth h)
+        | no h ↦ rw (g, le-ltb azimuth circle (omega arith)) (omega arith)
+      ]
+
+  pub along-moved : (distance : ℕ) (r : Amount) → told r ≡ moveTold distance (told s) → told r ≡ courseStep (entryIn t) axis distance azimuth
+  along-moved distance r m = m ∙ rw g (by (ltb azimuth circle))
+    where
+      by : (b : Bool) → moveTold distance (inRange b (sineAlong (entryIn t) axis azimuth)) ≡ inRange (leb distance 20100000 && b) (course (entryIn t) axis distance azimuth)
+      by true = refl
+      by false = rw (not-second (leb distance 20100000) false refl)
 
 -- by an empty list
 pub course-own : (axis : Axis) (distance azimuth : ℕ) (r : Amount) → told r ≡ courseStep (entryIn []) axis distance azimuth → told r ≡ courseStep entry axis distance azimuth

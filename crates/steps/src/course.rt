@@ -4,12 +4,12 @@ use sines::Turned;
 use whole::Whole;
 ghost use mathlib.Core.Path.{_≡_};
 ghost use Prim.Native.Nat.{_≤_};
-ghost use lib.IntN.{pos};
+ghost use lib.IntN.{pos, natAbs};
 ghost use Rattle.answer.specs.Told.{told};
 ghost use Rattle.minutes.specs.Quadrant.{turned};
 ghost use Rattle.minutes.specs.Entry.{entry};
 ghost use Rattle.sines.specs.Sine.{entryIn};
-ghost use Rattle.steps.specs.Course.{north as Course·north, east as Course·east, move as Course·move, courseStep, toldOf};
+ghost use Rattle.steps.specs.Course.{north as Course·north, east as Course·east, move as Course·move, courseStep, moveTold, toldOf};
 
 // Both moves of a leg, or its input was out of the range stated with the step.
 pub enum Moves {
@@ -68,23 +68,30 @@ pub fn moves_in(table: &[u32], distance: u64, azimuth: u32) -> Moves
     }
 }
 
-// One of them.
+// One of them, by the one sine that counts.
+fn moved(distance: u64, sine: Amount) -> Amount
+    requires { ⌜ natAbs (told sine .value) ≤ 1000000000 ⌝ }
+    ensures { λ r. ⌜ told r ≡ moveTold distance (told sine) ⌝ }
+{
+    if 20100000 < distance {
+        return Amount::OutOfRange;
+    }
+    match sine {
+        Amount::OutOfRange => Amount::OutOfRange,
+        Amount::Is(z) => Amount::Is(move_by(distance, z.size() as u32, z.below_zero())),
+    }
+}
+
 pub fn latitude_in(table: &[u32], distance: u64, azimuth: u32) -> Amount
     ensures { λ r. ⌜ told r ≡ courseStep (entryIn (now (table .entry))) Course·north distance azimuth ⌝ }
 {
-    match moves_in(table, distance, azimuth) {
-        Moves::OutOfRange => Amount::OutOfRange,
-        Moves::Are { north, east: _ } => Amount::Is(north),
-    }
+    moved(distance, sines::cosine_in(table, azimuth))
 }
 
 pub fn departure_in(table: &[u32], distance: u64, azimuth: u32) -> Amount
     ensures { λ r. ⌜ told r ≡ courseStep (entryIn (now (table .entry))) Course·east distance azimuth ⌝ }
 {
-    match moves_in(table, distance, azimuth) {
-        Moves::OutOfRange => Amount::OutOfRange,
-        Moves::Are { north: _, east } => Amount::Is(east),
-    }
+    moved(distance, sines::sine_in(table, azimuth))
 }
 
 // By the paper's entries, which an empty list leaves.

@@ -1,20 +1,22 @@
--- `quarter_in` meets its contract: it is the rule itself, where the entry behind 90 degrees has no weight.
+-- `quarter_in` meets its contract: from the minute that `minute` gives the angle is at most 600 tenths on, and the rule is the same from there.
 use borrow.Author.Needs.{needs}
-use Rattle.sines.proofs.Quadrants.{quarter-is}
+use native.Mathlib.Omega.{arith}
+use Rattle.sines.proofs.Own.{own-quarter, lent-quarter}
 use Rattle.sines.proofs.quarter_in.Statement.{statement}
 use Rattle.sines.proofs.quarter_in.Tie as tie
 
-cast-pair-in : tie.Need-cast-pair-in
-cast-pair-in c = search needs
-
-pair-in-requires : tie.Need-pair-in-requires
-pair-in-requires c κs = search needs
-
-between-requires : tie.Need-between-requires
-between-requires c κs = search needs
-
 returns : tie.Need-returns
-returns c = (search quarter-is, search needs)
+returns c = (own-quarter _ _ _ _ _ (omega arith) (omega arith) (c .unlent .ensures .0) (search needs), search needs)
+
+returns-2 : tie.Need-returns-2
+returns-2 c = (lent-quarter _ _ _ _ _ (omega arith) (omega arith) (c .lent .ensures .0), search needs)
 
 pub quarter-in-spec : {M : Type 1} → statement M
-quarter-in-spec = tie.close (tie.spec cast-pair-in pair-in-requires between-requires returns)
+quarter-in-spec =
+    tie.close
+    (tie.spec
+    (λ c κs. search needs) (λ c. search needs) (λ c. search needs)
+    (λ c. search needs) (λ c κs. search needs)
+    returns
+    (λ c. search needs) (λ c κs. search needs)
+    returns-2)

@@ -10,14 +10,8 @@ returns c = (search no-sides, (search no-angle, search no-angle))
 fold-requires : tie.Need-fold-requires
 fold-requires c κs = search needs
 
-quarter-in-requires : tie.Need-quarter-in-requires
-quarter-in-requires c κs = search needs
-
-sub-quarter-in : tie.Need-sub-quarter-in
-sub-quarter-in c = search needs
-
-quarter-in-requires-2 : tie.Need-quarter-in-requires-2
-quarter-in-requires-2 c κs = search needs
+both-in-requires : tie.Need-both-in-requires
+both-in-requires c κs = search needs
 
 behind-requires : tie.Need-behind-requires
 behind-requires c κs = search needs
@@ -27,12 +21,4 @@ returns-2 c = (search sides-are, (search sine-given, search cosine-given))
 
 pub sides-in-spec : {M : Type 1} → statement M
 sides-in-spec =
-    tie.close
-    (tie.spec
-    returns
-    fold-requires
-    quarter-in-requires
-    sub-quarter-in
-    quarter-in-requires-2
-    behind-requires
-    returns-2)
+    tie.close (tie.spec returns fold-requires both-in-requires behind-requires returns-2)

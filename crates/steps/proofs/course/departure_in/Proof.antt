@@ -1,15 +1,20 @@
--- `departure_in` meets its contract: of both moves, the one east.
+-- `departure_in` meets its contract: the sine is what counts along the axis east.
 use borrow.Author.Needs.{needs}
-use Rattle.answer.specs.Told.{told}
-use Rattle.steps.specs.Course.{toldOf}
+use Rattle.steps.specs.Course.{sineAlong, east}
+use Rattle.steps.proofs.Moving.{along-small, along-moved}
 use Rattle.steps.proofs.course.departure_in.Statement.{statement}
 use Rattle.steps.proofs.course.departure_in.Tie as tie
 
+sine-in-requires : tie.Need-sine-in-requires
+sine-in-requires c κs = search needs
+
+moved-requires : tie.Need-moved-requires
+unfolding sineAlong
+moved-requires c κs = let s = c .before .before .args in along-small (s .table .now) east (s .azimuth) _ (c .sine-in .ensures .0)
+
+returns : tie.Need-returns
+unfolding sineAlong
+returns c = search along-moved
+
 pub departure-in-spec : {M : Type 1} → statement M
-unfolding toldOf told
-departure-in-spec =
-    tie.close
-    (tie.spec
-    (λ c κs. search needs) (λ c. search needs) (λ c. search needs)
-    (λ c. rw (c .enum-told .given .1) at (c .before .before .moves-in .ensures .1))
-    (λ c. rw (c .before .east .given .1) at (c .before .before .before .moves-in .ensures .1)))
+departure-in-spec = tie.close (tie.spec sine-in-requires moved-requires returns)

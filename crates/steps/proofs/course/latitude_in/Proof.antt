@@ -1,15 +1,20 @@
--- `latitude_in` meets its contract: of both moves, the one north.
+-- `latitude_in` meets its contract: the cosine is what counts along the axis north.
 use borrow.Author.Needs.{needs}
-use Rattle.answer.specs.Told.{told}
-use Rattle.steps.specs.Course.{toldOf}
+use Rattle.steps.specs.Course.{sineAlong, north}
+use Rattle.steps.proofs.Moving.{along-small, along-moved}
 use Rattle.steps.proofs.course.latitude_in.Statement.{statement}
 use Rattle.steps.proofs.course.latitude_in.Tie as tie
 
+cosine-in-requires : tie.Need-cosine-in-requires
+cosine-in-requires c κs = search needs
+
+moved-requires : tie.Need-moved-requires
+unfolding sineAlong
+moved-requires c κs = let s = c .before .before .args in along-small (s .table .now) north (s .azimuth) _ (c .cosine-in .ensures .0)
+
+returns : tie.Need-returns
+unfolding sineAlong
+returns c = search along-moved
+
 pub latitude-in-spec : {M : Type 1} → statement M
-unfolding toldOf told
-latitude-in-spec =
-    tie.close
-    (tie.spec
-    (λ c κs. search needs) (λ c. search needs) (λ c. search needs)
-    (λ c. rw (c .enum-told .given .1) at (c .before .before .moves-in .ensures .0))
-    (λ c. rw (c .before .north .given .1) at (c .before .before .before .moves-in .ensures .0)))
+latitude-in-spec = tie.close (tie.spec cosine-in-requires moved-requires returns)
