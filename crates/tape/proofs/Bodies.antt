@@ -2,33 +2,26 @@
 -- of that kind's row.
 use mathlib.Core.Path.{_≡_, refl, sym, subst}
 use mathlib.Core.Bool.{Bool, true, _&&_, and-eq-true-iff}
-use mathlib.Core.List.{List}
 use Prim.Native.Nat.{ℕ, _+_, _-_, _≤_, _<_}
 use native.Mathlib.Omega.{arith}
-use borrow.Author.Tests.{ltb-true, leb-true, eqb-true}
-use lib.Dec.{T, leb, eqb, ltb, leb→le}
+use borrow.Author.Tests.{leb-true, eqb-true}
+use lib.Dec.{T, leb, eqb}
 use lib.ListN.{length}
 use lib.IntN.{ℤ, pos, negsuc, negℤ, natAbs}
 use lib.Signed.{leZ}
-use mir.Syntax.{w32}
-use mir.Val.{Fits}
 use Rattle.whole.specs.declared.Whole.{Whole}
 use Rattle.tape.specs.declared.Record.{Record}
 use Rattle.tape.specs.declared.Record.the-variants as kinds
 use Rattle.tape.specs.declared.State.{State}
-use Rattle.tape.specs.declared.Step.{Step}
 use Rattle.tape.specs.Bytes.{bytes}
-use Rattle.tape.specs.Record.{Rec, rec, fieldsOf, table, bodyOf, goodOf, numbersOf, bytesOf, recOf, goodRecord, bytesOfRecord}
-use Rattle.tape.specs.Tape.{mayCome, roomOf, afterOf}
-use Rattle.whole.proofs.Branch.{by-test, either, left}
+use Rattle.tape.specs.Record.{fieldsOf, table, bodyOf, goodOf, bytesOf, recOf, goodRecord, bytesOfRecord}
+use Rattle.tape.specs.Tape.{mayCome}
+use Rattle.whole.proofs.Branch.{by-test, either}
 
 -- ---- the record given is the case found
 module _ (given found : Record) (e : given ≡ found) where
   pub found-good : (b : Bool) → b ≡ goodRecord found → b ≡ goodRecord given
   found-good b h = rw e h
-
-  pub found-after : (st : State) (r : Step) → r ≡ afterOf st (recOf found .kind) (recOf found .values) → r ≡ afterOf st (recOf given .kind) (recOf given .values)
-  found-after st r h = rw e h
 
 -- its bytes are one for the kind and those of the body
 length-bytes : (r : Record) → length (bytesOfRecord r) ≡ 1 + bodyOf (recOf r .kind)
@@ -48,31 +41,10 @@ module _ (given : Record) (k n : ℕ) (e : k ≡ recOf given .kind) (f : n ≡ b
   pub room-given : (place len : ℕ) → place ≤ len → n < len - place → place + length (bytesOfRecord given) ≤ len
   room-given place len low room = omega (arith, length-given)
 
--- ---- the record read at a place is the one of the kind there
-module _ (given : Record) (k : ℕ) (vs : List ℤ) (e : recOf given ≡ rec k vs) where
-  pub read-good : (b : Bool) → b ≡ goodRecord given → b ≡ goodOf k vs
-  read-good b h = rw e at h
-
-  pub read-after : (st : State) (r : Step) → r ≡ afterOf st (recOf given .kind) (recOf given .values) → r ≡ afterOf st k vs
-  read-after st r h = rw e at h
-
-  pub read-room : (st : State) (n : ℕ) → n ≡ roomOf st k → n ≡ 0 → roomOf st (recOf given .kind) ≡ 0
-  read-room st n f h = rw (e, ← f) h
-
--- where the kind is n, the record is of that kind, and its bytes up to m are there
-pub at-kind : (r : Rec) (k n : ℕ) (l : List ℕ) → k ≡ n → r ≡ rec n (numbersOf n l) → r ≡ rec k (numbersOf k l)
-at-kind r k n l e h = rw e h
-
-pub within : (k n at p w len : ℕ) → k ≡ n → at + (1 + bodyOf k) ≤ len → T (leb (p + w) (1 + bodyOf n)) → at + p + w ≤ len
-within k n at p w len e h t = let i : at + (1 + bodyOf n) ≤ len = rw e at h in omega (arith, leb→le (p + w) (1 + bodyOf n) t)
-
 -- what is none of the four others is a close
 module _ (k : ℕ) (a : k ≡ 5 → ⊥) (b : k ≡ 1 → ⊥) (c : k ≡ 2 → ⊥) (d : k ≡ 3 → ⊥) (low : 1 ≤ k) (high : k ≤ 5) where
   pub is-close : k ≡ 4
   is-close = omega arith
-
-  pub within-close : (at p w len : ℕ) → at + (1 + bodyOf k) ≤ len → T (leb (p + w) (1 + bodyOf 4)) → at + p + w ≤ len
-  within-close at p w len = within k 4 at p w len is-close
 
 -- ---- a kind that may come is one of the five
 module _ (k : ℕ) where
@@ -92,7 +64,7 @@ module _ (k : ℕ) where
       (λ t. either (eqb k 3) _ (is 3 (omega arith) (omega arith)) (λ e. is 4 (omega arith) (omega arith) (and-eq-true-iff (eqb k 4) _ .0 e .0)))
       (λ t e. absurd (subst T (sym e) tt))))
 
--- ---- what a record in range, and a kind with room, tell
+-- ---- what a project in range tells
 pub project-feet : (given : Record) (latitude : ℕ) (elevation : Whole) → given ≡ kinds.Project latitude elevation → goodRecord given ≡ true
     → natAbs (elevation .v) ≤ 20000
 unfolding recOf goodOf fieldsOf table
@@ -101,21 +73,3 @@ project-feet given latitude elevation e t = go (elevation .v) (and-eq-true-iff (
     go : (z : ℤ) → ((leZ (negℤ (pos 1000)) z && leZ z (pos 20000)) && true) ≡ true → natAbs z ≤ 20000
     go (pos n) h = leb-true n 20000 (and-eq-true-iff (leb n 20000) true .0 h .0)
     go (negsuc n) h = omega (arith, leb-true n 999 (and-eq-true-iff (leb n 999) true .0 (and-eq-true-iff (leb n 999 && true) true .0 h .0) .0))
-
-pub row-minute : (given : Record) (minute factor : ℕ) → given ≡ kinds.Row minute factor → goodRecord given ≡ true → minute < 65536
-unfolding recOf goodOf fieldsOf table
-row-minute given minute factor e t =
-    let i = and-eq-true-iff (leb 0 minute && leb minute 5400) _ .0 (rw e at t) .0 in
-    omega (arith, leb-true minute 5400 (and-eq-true-iff (leb 0 minute) (leb minute 5400) .0 i .1))
-
--- where there is room for a row, or a leg, one more is counted without harm
-module _ (st : State) (given : Record) (h : roomOf st (recOf given .kind) ≡ 0) where
-  pub row-room : (minute factor : ℕ) → given ≡ kinds.Row minute factor → st .rows < 600
-  unfolding roomOf recOf
-  row-room minute factor e = ltb-true _ _ (left (ltb (st .rows) 600) 5 (omega arith) (rw e at h))
-
-  pub leg-fits : (angle distance : ℕ) → given ≡ kinds.Leg angle distance → Fits w32 (st .legs + 1)
-  unfolding roomOf recOf
-  leg-fits angle distance e =
-      let l : st .legs < 64 = ltb-true _ _ (left (ltb (st .legs) 64) 6 (omega arith) (rw e at h)) in
-      omega arith

@@ -15,17 +15,17 @@ use Rattle.whole.specs.Filled.{filled}
 use Rattle.whole.specs.declared.Whole.{Whole}
 use Rattle.tape.specs.Bytes.{two, four, num, meant, twosComplement}
 use Rattle.tape.specs.Record.{Rec, rec, bodyOf, numbersOf, fieldsOf, table}
-use Rattle.tape.specs.Tape.{firstOf, stepOf, walk, start, readingOf, recordsFrom, told}
+use Rattle.tape.specs.Tape.{Next, firstOf, stepOf, walk, start, readingOf, recordsFrom, told}
 use Rattle.tape.specs.Fields.{Fields, fieldsOf as named, nothing, number, putIn, gathered, isRow, scaleOf, withScale, controlOf, takenOf}
+use Rattle.tape.specs.Passing.{to}
 use Rattle.tape.specs.declared.State.{State}
-use Rattle.tape.specs.declared.Step.the-variants.{Next}
 use Rattle.tape.specs.declared.Control.{Control}
 use Rattle.tape.specs.declared.Reading.{Reading}
 use Rattle.tape.specs.declared.Reading.the-variants.{Refused, Reads}
 use Rattle.tape.specs.declared.Taken.the-variants as taken
 use Rattle.tape.proofs.Held.{ranged}
 use Rattle.tape.proofs.Numbers.{head-drop, num-drop}
-use Rattle.tape.proofs.Onward.{to, Takes, takes, On, onward}
+use Rattle.tape.proofs.Onward.{Takes, takes, On, onward}
 use Rattle.tape.proofs.Rows.{In}
 use Rattle.tape.proofs.Round.{reads-next}
 use Rattle.tape.proofs.Walk.{at-front, walk-open, next-whole, walk-next}

@@ -16,10 +16,9 @@ use borrow.Author.Tests.{ltb-true, leb-true, lt-leb, eqb-true, eqb-false, eq-eqb
 use Rattle.whole.specs.Order.{_≤ᶻ_}
 use Rattle.whole.proofs.Diff.{int}
 use Rattle.tape.specs.Record.{Field, Rec, rec, fieldsOf, table, inRanges, goodOf, bodyOf}
-use Rattle.tape.specs.Tape.{mayCome, roomOf, rowNext, projectNext, firstOf, afterOf, judge, start, runOf, recordsOf}
+use Rattle.tape.specs.Tape.{Next, mayCome, roomOf, rowNext, projectNext, firstOf, afterOf, judge, start, runOf, recordsOf}
 use Rattle.tape.specs.Fields.{Fields, fieldsOf as named, nothing, number, putIn, gathered, isRow, scaleOf, DoesRead}
 use Rattle.tape.specs.declared.State.{State}
-use Rattle.tape.specs.declared.Step.the-variants.{Next}
 use Rattle.tape.specs.declared.Reading.{Reading}
 use Rattle.tape.specs.declared.Reading.the-variants.{Reads}
 use Rattle.whole.proofs.Branch.{by-test}

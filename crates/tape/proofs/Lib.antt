@@ -6,6 +6,7 @@ pub mod Legs
 pub mod Longest
 pub mod Numbers
 pub mod Onward
+pub mod Parts
 pub mod Passing
 pub mod Refusals
 pub mod Round

@@ -11,10 +11,8 @@ use lib.ListN.{length, length-append, List·getD-append}
 use borrow.Author.Tests.{ltb-true, lt-ltb, eqb-true}
 use Rattle.tape.specs.Bytes.{Width, two, four, size, num}
 use Rattle.tape.specs.Record.{Field, table, fieldsOf, total, numbers, numbersOf, bodyOf}
-use Rattle.tape.specs.Tape.{mayCome, roomOf, rowNext, projectNext, firstOf, afterOf, takeOf, judge, stepOf, onStep, walk, start, readingOf}
+use Rattle.tape.specs.Tape.{Step, Next, Stop, mayCome, roomOf, rowNext, projectNext, firstOf, afterOf, takeOf, judge, stepOf, onStep, walk, start, readingOf}
 use Rattle.tape.specs.declared.State.{State}
-use Rattle.tape.specs.declared.Step.{Step}
-use Rattle.tape.specs.declared.Step.the-variants.{Next, Stop}
 use Rattle.tape.specs.declared.Reading.{Reading}
 use Rattle.tape.specs.declared.Reading.the-variants.{Refused}
 use Rattle.whole.proofs.Branch.{by-test, either, left}

@@ -11,9 +11,9 @@ use lib.IntN.{ℤ}
 use lib.ListN.{length}
 use borrow.Author.Tests.{ltb-true, leb-true, eqb-true, ne-eqb}
 use Rattle.tape.specs.Record.{bodyOf, numbersOf}
-use Rattle.tape.specs.Tape.{mayCome, roomOf, rowNext, projectNext, firstOf, afterOf, judge, stepOf, walk}
+use Rattle.tape.specs.Tape.{Next, mayCome, roomOf, rowNext, projectNext, firstOf, afterOf, judge, stepOf, walk}
+use Rattle.tape.specs.Passing.{to}
 use Rattle.tape.specs.declared.State.{State}
-use Rattle.tape.specs.declared.Step.the-variants.{Next}
 use Rattle.tape.specs.declared.Reading.{Reading}
 use Rattle.tape.specs.declared.Reading.the-variants.{Reads}
 use Rattle.whole.proofs.Branch.{by-test, either, left}
@@ -21,10 +21,6 @@ use Rattle.tape.proofs.Held.{no}
 use Rattle.tape.proofs.Rows.{In, Leads}
 use Rattle.tape.proofs.Walk.{passed}
 use Rattle.tape.proofs.Round.{reads-next}
-
--- the same counts in another phase
-abbrev pub to : ℕ → State → State
-to p st = record { phase = p; rows = st .rows; next = st .next; legs = st .legs }
 
 -- ---- a record of kind k with the numbers vs, taken in phase p and state st, leads to u
 abbrev pub Takes : ℕ → State → ℕ → List ℤ → State → Type 0

@@ -8,10 +8,8 @@ use mathlib.Core.Bool.{Bool, cond}
 use lib.Dec.{eqb, ltb}
 use borrow.Author.Needs.{needs}
 use Rattle.tape.specs.Record.{bodyOf}
-use Rattle.tape.specs.Tape.{roomOf, rowNext, projectNext, afterOf, takeOf, judge, stepOf, onStep, walk, start, readingOf}
+use Rattle.tape.specs.Tape.{Step, Next, Stop, roomOf, rowNext, projectNext, afterOf, takeOf, judge, stepOf, onStep, walk, start, readingOf}
 use Rattle.tape.specs.declared.State.{State}
-use Rattle.tape.specs.declared.Step.{Step}
-use Rattle.tape.specs.declared.Step.the-variants.{Next, Stop}
 use Rattle.tape.specs.declared.Reading.{Reading}
 use Rattle.tape.specs.declared.Reading.the-variants.{Refused, Reads}
 use Rattle.whole.proofs.Branch.{by-test}

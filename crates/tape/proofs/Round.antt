@@ -11,10 +11,8 @@ use lib.Seq.{drop-cons, drop-drop, take-add}
 use borrow.Author.Tests.{lt-ltb}
 use Rattle.tape.specs.Bytes.{Width, two, four, size, num, bytes, Coding, unsigned, twosComplement, room, meant, written}
 use Rattle.tape.specs.Record.{Field, fieldsOf, total, numbers, spell, bodyOf, bytesOf, numbersOf}
-use Rattle.tape.specs.Tape.{walk, stepOf, judge, onStep, start, readingOf, recordsFrom, recordsOf, tapeOf, runOf, fieldsRead}
+use Rattle.tape.specs.Tape.{Step, Next, Stop, walk, stepOf, judge, onStep, start, readingOf, recordsFrom, recordsOf, tapeOf, runOf, fieldsRead}
 use Rattle.tape.specs.declared.State.{State}
-use Rattle.tape.specs.declared.Step.{Step}
-use Rattle.tape.specs.declared.Step.the-variants.{Next, Stop}
 use Rattle.tape.specs.declared.Reading.{Reading}
 use Rattle.tape.specs.declared.Reading.the-variants.{Reads}
 use Rattle.whole.proofs.Branch.{by-test}

@@ -11,10 +11,8 @@ use lib.Dec.{eqb, ltb, leb}
 use lib.IntN.{ℤ}
 use borrow.Author.Tests.{ltb-true, ltb-false, leb-true, leb-false, eqb-true, eqb-false, ne-eqb}
 use Rattle.tape.specs.Record.{Rec}
-use Rattle.tape.specs.Tape.{judge, afterOf, rowNext, projectNext, firstOf, start}
+use Rattle.tape.specs.Tape.{Step, Next, Stop, judge, afterOf, rowNext, projectNext, firstOf, start}
 use Rattle.tape.specs.declared.State.{State}
-use Rattle.tape.specs.declared.Step.{Step}
-use Rattle.tape.specs.declared.Step.the-variants.{Next, Stop}
 use Rattle.whole.proofs.Branch.{cond-and, by-test}
 use Rattle.tape.proofs.Walk.{passed}
 

@@ -1,31 +1,40 @@
--- What the reader passes over by the fewest tests: a row or a leg that is due. The walk over the tape takes each, so that the reading is the same from
--- behind them on. Only private functions promise this.
+-- What the reader's private functions promise one another, each of its part of the tape: the reading of the whole is a refusal there, or the reading from
+-- behind the part on.
 use mathlib.Core.Path.{_≡_}
+use mathlib.Core.Bool.{cond}
 use mathlib.Core.List.{List}
-use Prim.Native.Nat.{ℕ, _+_, _≤_, _<_}
+use Prim.Native.Nat.{ℕ, _≤_}
+use lib.Dec.{eqb}
 use lib.ListN.{length, getD, drop}
 use Rattle.tape.specs.declared.State.{State}
-use Rattle.tape.specs.declared.Reached.{Reached}
-use Rattle.tape.specs.declared.Step.the-variants.{Next}
-use Rattle.tape.specs.Tape.{stepOf, walk}
+use Rattle.tape.specs.declared.Passed.{Passed}
+use Rattle.tape.specs.declared.Reading.{Reading}
+use Rattle.tape.specs.declared.Reading.the-variants.{Refused}
+use Rattle.tape.specs.Tape.{walk, readingOf}
 
--- a row stands at a place of the tape, and is taken in the state there
-pub record RowDue (tape : List ℕ) (at : ℕ) (st : State) : Type 0 where
-  pub kind : getD tape at 0 ≡ 5
-  pub whole : at + 7 ≤ length tape
-  pub room : st .rows < 600
-  pub minute : st .next < 65536
-  pub taken : Next (record { phase = st .phase; rows = st .rows + 1; next = st .next + 1; legs = st .legs }) ≡ stepOf st (drop at tape)
+-- the reading from a place on, in the state there
+abbrev pub onward : List ℕ → State → ℕ → Reading
+onward tape st at = walk st at 0 (drop at tape)
 
--- and so a leg
-pub record LegDue (tape : List ℕ) (at : ℕ) (st : State) : Type 0 where
-  pub kind : getD tape at 0 ≡ 3
-  pub whole : at + 9 ≤ length tape
-  pub room : st .legs < 64
-  pub taken : Next (record { phase = st .phase; rows = st .rows; next = st .next; legs = st .legs + 1 }) ≡ stepOf st (drop at tape)
+-- the same counts in another phase
+abbrev pub to : ℕ → State → State
+to p st = record { phase = p; rows = st .rows; next = st .next; legs = st .legs }
 
--- the reading from one place on, in the state there, is that from an earlier one
-pub record Further (tape : List ℕ) (from to : Reached) : Type 0 where
-  pub ahead : from .at ≤ to .at
-  pub within : to .at ≤ length tape
-  pub same : walk (to .st) (to .at) 0 (drop (to .at) tape) ≡ walk (from .st) (from .at) 0 (drop (from .at) tape)
+-- n refuses the record at a place, or is 0, and the reading goes on behind it, in the state there
+pub record Passes (tape : List ℕ) (st : State) (at n : ℕ) (after : State) (behind : ℕ) : Type 0 where
+  pub same : onward tape st at ≡ cond (eqb n 0) (onward tape after behind) (Refused n at)
+  pub within : n ≡ 0 → behind ≤ length tape
+
+-- the same of all records of a kind that follow each other from a place on
+pub record Ran (tape : List ℕ) (st : State) (at kind : ℕ) (r : Passed) : Type 0 where
+  pub same : onward tape st at ≡ cond (eqb (r .number) 0) (onward tape (r .st) (r .at)) (Refused (r .number) (r .at))
+  pub within : r .at ≤ length tape
+  pub phase : r .st .phase ≡ st .phase
+  pub none : r .number ≡ 0 → getD tape (r .at) 0 ≡ kind → ⊥
+
+-- and of all that stands before the legs
+pub record Opened (tape : List ℕ) (r : Passed) : Type 0 where
+  pub same : readingOf tape ≡ cond (eqb (r .number) 0) (onward tape (r .st) (r .at)) (Refused (r .number) (r .at))
+  pub within : r .number ≡ 0 → r .at ≤ length tape
+  pub phase : r .number ≡ 0 → r .st .phase ≡ 2
+  pub legs : r .number ≡ 0 → r .st .legs ≡ 0

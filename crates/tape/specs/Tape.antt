@@ -7,11 +7,14 @@ use lib.Dec.{leb, ltb, eqb}
 use lib.ListN.{length, getD}
 use lib.IntN.{ℤ, pos, natAbs}
 use Rattle.tape.specs.declared.State.{State}
-use Rattle.tape.specs.declared.Step.{Step}
-use Rattle.tape.specs.declared.Step.the-variants.{Next, Stop}
 use Rattle.tape.specs.declared.Reading.{Reading}
 use Rattle.tape.specs.declared.Reading.the-variants.{Refused, Reads}
 use Rattle.tape.specs.Record.{Rec, bodyOf, numbersOf, goodOf, bytesOf}
+
+-- one record: what has been read with it, or the number of its refusal
+pub data Step : Type 0 where
+  Next : State → Step
+  Stop : ℕ → Step
 
 -- ---- "Order: 0 to 600 rows ..; one project; one start; 1 to 64 legs; one close; end."
 -- phase 0 waits for rows or the project, 1 for the start, 2 for legs or the close, 3 for the end

@@ -47,16 +47,11 @@ pub struct State {
     pub legs: u32,
 }
 
-// A place of the tape between two records, and the state there.
-struct Reached {
+// What was read of some records: the number of a refusal, or 0; the place reached, and the state there.
+struct Passed {
+    number: u32,
     at: usize,
     st: State,
-}
-
-// One record taken, or the number of its refusal.
-pub enum Step {
-    Next(State),
-    Stop(u32),
 }
 
 // What a tape's reading answers.
@@ -120,21 +115,21 @@ pub fn take(tape: &[u8]) -> Taken
     }
 }
 
-// How many places of a tape have a number of four bytes: a place is then tried by one comparison, with no sum that could overflow.
-fn places(tape: &[u8]) -> usize
-    ensures { λ r. ⌜ r ≡ length (now (tape .entry)) - 3 ⌝ }
+// How many places of a tape have so many bytes behind them: a place is then tried by one comparison, with no sum that could overflow.
+fn places(tape: &[u8], behind: usize) -> usize
+    ensures { λ r. ⌜ r ≡ length (now (tape .entry)) - behind ⌝ }
 {
-    if tape.len() < 3 {
+    if tape.len() < behind {
         return 0;
     }
-    tape.len() - 3
+    tape.len() - behind
 }
 
 // The number at a place; 0 where there is none. Any place may be given.
 pub fn four(tape: &[u8], at: usize) -> u32
     ensures { λ r. ⌜ r ≡ fourAt (now (tape .entry)) at ⌝ }
 {
-    if at < places(tape) {
+    if at < places(tape, 3) {
         return digits::four_at(tape, at);
     }
     0

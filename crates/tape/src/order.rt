@@ -1,300 +1,308 @@
-// The reading of a tape, each of its records in the paper's order of tests.
-use crate::Reached;
+// The reading of a tape in the paper's order: rows, the project, the start, legs, the close, the end. Each record's own tests stand in the paper's order too.
+//
+// Rows and legs may be many: where the last of them may stand, by the limit and by the tape's length, is known before the first is read, so that each is told
+// by the fewest tests.
+use crate::Passed;
 use crate::Reading;
-use crate::Record;
 use crate::State;
-use crate::Step;
 use crate::digits;
+use crate::places;
 use crate::ranges;
 ghost use mathlib.Core.Path.{_≡_};
-ghost use mathlib.Core.Bool.{true};
+ghost use mathlib.Core.Bool.{cond, false};
 ghost use Prim.Native.Nat.{_+_, _<_, _≤_};
-ghost use lib.Dec.{ltb};
-ghost use lib.ListN.{length, drop};
-ghost use Rattle.tape.specs.Record.{bodyOf, numbersOf, rec, recOf, goodRecord};
-ghost use Rattle.tape.specs.Passing.{RowDue, LegDue, Further};
-ghost use Rattle.tape.specs.Tape.{mayCome, roomOf, rowNext, projectNext, afterOf, takeOf, stepOf, readingOf};
+ghost use lib.Dec.{eqb, ltb};
+ghost use lib.ListN.{length, getD};
+ghost use Rattle.tape.specs.Bytes.{two, num};
+ghost use Rattle.tape.specs.Tape.{start as Tape·start, readingOf};
+ghost use Rattle.tape.specs.Passing.{to, onward, Passes, Ran, Opened};
 
-fn may_come(st: State, kind: u8) -> bool
-    ensures { λ r. ⌜ r ≡ mayCome st kind ⌝ }
+// ---- places and kinds
+// The lesser of two places.
+fn least(a: usize, b: usize) -> usize
+    ensures { λ r. ⌜ (r ≤ a) × (r ≤ b) × (r < b → r ≡ a) ⌝ }
 {
-    if st.phase == 0 {
-        if kind == 5 {
-            return true;
-        }
-        return kind == 1;
+    if a < b {
+        return a;
     }
-    if st.phase == 1 {
-        return kind == 2;
-    }
-    if st.phase == 2 {
-        if kind == 3 {
-            return true;
-        }
-        if kind == 4 {
-            return 0 < st.legs;
-        }
-        return false;
-    }
-    false
+    b
 }
 
-// 0, or the number of the refusal.
-fn room(st: State, kind: u8) -> u32
-    ensures { λ r. ⌜ r ≡ roomOf st kind ⌝ }
+// Whether one more of a kind stands at a place, of those that there is room for: they stand before the end.
+fn more(tape: &[u8], at: usize, kind: u8, end: usize) -> bool
+    requires { ⌜ end ≤ length (now tape) ⌝ }
+    ensures { λ r. ⌜ r ≡ cond (ltb at end) (eqb (getD (now (tape .entry)) at 0) kind) false ⌝ }
 {
-    if kind == 5 {
-        if st.rows < 600 {
+    if end <= at {
+        return false;
+    }
+    tape[at] == kind
+}
+
+// What refuses one more of a kind, for which there is no room: 2 where the tape is too short, or else the number of one too many. 0 for another record.
+fn beyond(tape: &[u8], at: usize, kind: u8, count: u32, limit: u32, number: u32) -> u32
+    ensures { λ r. ⌜ r ≡ cond (ltb at (length (now (tape .entry)))) (cond (eqb (getD (now (tape .entry)) at 0) kind) (cond (ltb count limit) 2 number) 0) 0 ⌝ }
+{
+    if tape.len() <= at {
+        return 0;
+    }
+    if tape[at] != kind {
+        return 0;
+    }
+    if count < limit {
+        return 2;
+    }
+    number
+}
+
+// What refuses another record where only one kind may stand: 2 at the end of the tape, 3 before it.
+fn other(tape: &[u8], at: usize, kind: u8) -> u32
+    ensures { λ r. ⌜ r ≡ cond (ltb at (length (now (tape .entry)))) (cond (eqb (getD (now (tape .entry)) at 0) kind) 0 3) 2 ⌝ }
+{
+    if tape.len() <= at {
+        return 2;
+    }
+    if tape[at] == kind {
+        return 0;
+    }
+    3
+}
+
+fn in_phase(phase: u32, st: State) -> State
+    ensures { λ r. ⌜ r ≡ to phase st ⌝ }
+{
+    State {
+        phase,
+        rows: st.rows,
+        next: st.next,
+        legs: st.legs,
+    }
+}
+
+// ---- what refuses a record: its number, or 0
+// A row that there is room for.
+fn row(tape: &[u8], at: usize, st: State) -> u32
+    requires { ⌜ (getD (now tape) at 0 ≡ 5) × (at + 7 ≤ length (now tape)) ⌝ }
+    requires { ⌜ (st .phase ≡ 0) × (st .rows < 600) ⌝ }
+    ensures { λ r. ⌜ Passes (now (tape .entry)) st at r (record { phase = 0; rows = st .rows + 1; next = num two (now (tape .entry)) (at + 1) + 1; legs = st .legs }) (at + 7) ⌝ }
+{
+    let minute = digits::two_at(tape, at + 1);
+    if ranges::row_good(minute, digits::four_at(tape, at + 3)) {
+        if st.rows == 0 {
+            return 0;
+        }
+        if minute == st.next {
             return 0;
         }
         return 5;
     }
-    if kind == 3 {
-        if st.legs < 64 {
-            return 0;
+    4
+}
+
+// The project, where no row stands.
+fn project(tape: &[u8], at: usize, st: State) -> u32
+    requires { ⌜ (getD (now tape) at 0 ≡ 5 → ⊥) ⌝ }
+    requires { ⌜ st .phase ≡ 0 ⌝ }
+    ensures { λ r. ⌜ Passes (now (tape .entry)) st at r (to 1 st) (at + 5) ⌝ }
+{
+    let number = other(tape, at, 1);
+    if number != 0 {
+        return number;
+    }
+    if tape.len() - at <= 4 {
+        return 2;
+    }
+    let latitude = digits::two_at(tape, at + 1);
+    if ranges::project_good(latitude, digits::signed_at(tape, at + 3)) {
+        if st.next <= latitude {
+            return 7;
         }
-        return 6;
+        if st.rows < st.next - latitude {
+            return 7;
+        }
+        return 0;
     }
-    0
+    4
 }
 
-// The record of a kind at a place, from the tape's own bytes.
-fn record_at(s: &[u8], at: usize, kind: u8) -> Record
-    requires { ⌜ at + (1 + bodyOf kind) ≤ length (now s) ⌝ }
-    requires { ⌜ (1 ≤ kind) × (kind ≤ 5) ⌝ }
-    ensures { λ r. ⌜ recOf r ≡ rec kind (numbersOf kind (drop at (now (s .entry)))) ⌝ }
+fn start(tape: &[u8], at: usize, st: State) -> u32
+    requires { ⌜ st .phase ≡ 1 ⌝ }
+    ensures { λ r. ⌜ Passes (now (tape .entry)) st at r (to 2 st) (at + 13) ⌝ }
 {
-    if kind == 5 {
-        return Record::Row {
-            minute: digits::two_at(s, at + 1),
-            factor: digits::four_at(s, at + 3),
-        };
+    let number = other(tape, at, 2);
+    if number != 0 {
+        return number;
     }
-    if kind == 1 {
-        return Record::Project {
-            latitude: digits::two_at(s, at + 1),
-            elevation: digits::signed_at(s, at + 3),
-        };
+    if tape.len() - at <= 12 {
+        return 2;
     }
-    if kind == 2 {
-        return Record::Start {
-            northing: digits::four_at(s, at + 1),
-            easting: digits::four_at(s, at + 5),
-            mark: digits::four_at(s, at + 9),
-        };
+    if ranges::start_good(
+        digits::four_at(tape, at + 1),
+        digits::four_at(tape, at + 5),
+        digits::four_at(tape, at + 9),
+    ) {
+        return 0;
     }
-    if kind == 3 {
-        return Record::Leg {
-            angle: digits::four_at(s, at + 1),
-            distance: digits::four_at(s, at + 5),
-        };
-    }
-    Record::Close {
-        angle: digits::four_at(s, at + 1),
-        northing: digits::four_at(s, at + 5),
-        easting: digits::four_at(s, at + 9),
-        mark: digits::four_at(s, at + 13),
-    }
+    4
 }
 
-fn row_next(st: State, minute: u32) -> Step
-    requires { ⌜ (st .rows < 600) × (minute < 65536) ⌝ }
-    ensures { λ r. ⌜ r ≡ rowNext st minute ⌝ }
+// A leg that there is room for.
+fn leg(tape: &[u8], at: usize, st: State) -> u32
+    requires { ⌜ (getD (now tape) at 0 ≡ 3) × (at + 9 ≤ length (now tape)) ⌝ }
+    requires { ⌜ (st .phase ≡ 2) × (st .legs < 64) ⌝ }
+    ensures { λ r. ⌜ Passes (now (tape .entry)) st at r (record { phase = 2; rows = st .rows; next = st .next; legs = st .legs + 1 }) (at + 9) ⌝ }
 {
-    let next = State {
-        phase: 0,
-        rows: st.rows + 1,
-        next: minute + 1,
-        legs: st.legs,
-    };
-    if st.rows == 0 {
-        return Step::Next(next);
+    if ranges::leg_good(digits::four_at(tape, at + 1), digits::four_at(tape, at + 5)) {
+        return 0;
     }
-    if minute == st.next {
-        return Step::Next(next);
-    }
-    Step::Stop(5)
+    4
 }
 
-fn project_next(st: State, latitude: u32) -> Step
-    ensures { λ r. ⌜ r ≡ projectNext st latitude ⌝ }
+// The close, where no leg stands. Before the first leg it may not come.
+fn close(tape: &[u8], at: usize, st: State) -> u32
+    requires { ⌜ (getD (now tape) at 0 ≡ 3 → ⊥) ⌝ }
+    requires { ⌜ st .phase ≡ 2 ⌝ }
+    ensures { λ r. ⌜ Passes (now (tape .entry)) st at r (to 3 st) (at + 17) ⌝ }
 {
-    if st.next <= latitude {
-        return Step::Stop(7);
+    let number = other(tape, at, 4);
+    if number != 0 {
+        return number;
     }
-    if st.rows < st.next - latitude {
-        return Step::Stop(7);
+    if st.legs == 0 {
+        return 3;
     }
-    Step::Next(State {
-        phase: 1,
-        rows: st.rows,
-        next: st.next,
-        legs: st.legs,
-    })
+    if tape.len() - at <= 16 {
+        return 2;
+    }
+    if ranges::close_good(
+        digits::four_at(tape, at + 1),
+        digits::four_at(tape, at + 5),
+        digits::four_at(tape, at + 9),
+        digits::four_at(tape, at + 13),
+    ) {
+        return 0;
+    }
+    4
 }
 
-// What follows a record that is whole and in range.
-fn after(st: State, given: Record) -> Step
-    requires { ⌜ (roomOf st (recOf given .kind) ≡ 0) × (goodRecord given ≡ true) ⌝ }
-    ensures { λ r. ⌜ r ≡ afterOf st (recOf given .kind) (recOf given .values) ⌝ }
+// ---- the parts of the tape
+fn rows(tape: &[u8]) -> Passed
+    ensures ran { λ r. ⌜ Ran (now (tape .entry)) Tape·start 0 5 r ⌝ }
+    ensures legs { λ r. ⌜ r .st .legs ≡ 0 ⌝ }
 {
-    match given {
-        Record::Row { minute, .. } => row_next(st, minute),
-        Record::Project { latitude, .. } => project_next(st, latitude),
-        Record::Start { .. } => Step::Next(State {
-            phase: 2,
-            rows: st.rows,
-            next: st.next,
-            legs: st.legs,
-        }),
-        Record::Leg { .. } => Step::Next(State {
-            phase: 2,
-            rows: st.rows,
-            next: st.next,
-            legs: st.legs + 1,
-        }),
-        Record::Close { .. } => Step::Next(State {
-            phase: 3,
-            rows: st.rows,
-            next: st.next,
-            legs: st.legs,
-        }),
-    }
-}
-
-// A record whose kind may come: its room, then its body, its fields, and what follows.
-fn take_body(s: &[u8], at: usize, st: State, kind: u8) -> Step
-    requires { ⌜ (at < length (now s)) × (mayCome st kind ≡ true) ⌝ }
-    ensures { λ r. ⌜ r ≡ takeOf st kind (ltb (bodyOf kind) (length (drop at (now (s .entry))))) (numbersOf kind (drop at (now (s .entry)))) ⌝ }
-{
-    let refusal = room(st, kind);
-    if refusal != 0 {
-        return Step::Stop(refusal);
-    }
-    if s.len() - at <= ranges::body_len(kind) {
-        return Step::Stop(2);
-    }
-    let given = record_at(s, at, kind);
-    if ranges::good(given) {
-        return after(st, given);
-    }
-    Step::Stop(4)
-}
-
-// The record at a place within the tape.
-pub fn take_record(s: &[u8], at: usize, st: State) -> Step
-    requires { ⌜ at < length (now s) ⌝ }
-    ensures { λ r. ⌜ r ≡ stepOf st (drop at (now (s .entry))) ⌝ }
-{
-    let kind = s[at];
-    if may_come(st, kind) {
-        return take_body(s, at, st, kind);
-    }
-    Step::Stop(3)
-}
-
-// Whether the row that is due stands at a place, whole and in range.
-fn row_due(tape: &[u8], at: usize, st: State) -> bool
-    requires { ⌜ at ≤ length (now tape) ⌝ }
-    ensures { λ r. ⌜ (r ≡ true → RowDue (now (tape .entry)) at st) ⌝ }
-{
-    if st.phase != 0 {
-        return false;
-    }
-    if st.rows >= 600 {
-        return false;
-    }
-    if tape.len() - at <= 6 {
-        return false;
-    }
-    if tape[at] != 5 {
-        return false;
-    }
-    let minute = digits::two_at(tape, at + 1);
-    if minute != st.next {
-        return false;
-    }
-    ranges::row_good(minute, digits::four_at(tape, at + 3))
-}
-
-// Whether one more leg stands at a place, whole and in range.
-fn leg_due(tape: &[u8], at: usize, st: State) -> bool
-    requires { ⌜ at ≤ length (now tape) ⌝ }
-    ensures { λ r. ⌜ (r ≡ true → LegDue (now (tape .entry)) at st) ⌝ }
-{
-    if st.phase != 2 {
-        return false;
-    }
-    if st.legs >= 64 {
-        return false;
-    }
-    if tape.len() - at <= 8 {
-        return false;
-    }
-    if tape[at] != 3 {
-        return false;
-    }
-    ranges::leg_good(digits::four_at(tape, at + 1), digits::four_at(tape, at + 5))
-}
-
-// Past the rows that are due. They come by the hundred, and so are told by the fewest tests; whatever stands behind them is left to `take_record`.
-fn pass_rows(tape: &[u8], from: Reached) -> Reached
-    requires { ⌜ from .at ≤ length (now tape) ⌝ }
-    ensures { λ r. ⌜ Further (now (tape .entry)) from r ⌝ }
-{
-    let mut at = from.at;
-    let mut st = from.st;
-    while row_due(tape, at, st) {
-        at = at + 7;
-        st.rows = st.rows + 1;
-        st.next = st.next + 1;
-    }
-    Reached { at, st }
-}
-
-// Past the legs that are due, in the same way.
-fn pass_legs(tape: &[u8], from: Reached) -> Reached
-    requires { ⌜ from .at ≤ length (now tape) ⌝ }
-    ensures { λ r. ⌜ Further (now (tape .entry)) from r ⌝ }
-{
-    let mut at = from.at;
-    let mut st = from.st;
-    while leg_due(tape, at, st) {
-        at = at + 9;
-        st.legs = st.legs + 1;
-    }
-    Reached { at, st }
-}
-
-// The whole tape, record after record: one pass, and nothing is copied. Behind a record that is taken, the rows or legs that are due are passed over.
-pub fn read_all(tape: &[u8]) -> Reading
-    ensures { λ r. ⌜ r ≡ readingOf (now (tape .entry)) ⌝ }
-{
+    let end = least(places(tape, 6), 4200);
+    let mut at: usize = 0;
     let mut st = State {
         phase: 0,
         rows: 0,
         next: 0,
         legs: 0,
     };
-    let mut at: usize = 0;
-    while at < tape.len() {
-        match take_record(tape, at, st) {
-            Step::Next(n) => {
-                let behind = at + 1 + ranges::body_len(tape[at]);
-                let on = pass_legs(tape, pass_rows(tape, Reached { at: behind, st: n }));
-                st = on.st;
-                at = on.at;
-            }
-            Step::Stop(number) => {
-                return Reading::Refused { number, place: at };
-            }
+    while more(tape, at, 5, end) {
+        let number = row(tape, at, st);
+        if number != 0 {
+            return Passed { number, at, st };
         }
+        st.rows = st.rows + 1;
+        st.next = digits::two_at(tape, at + 1) + 1;
+        at = at + 7;
     }
-    if st.phase == 3 {
-        return Reading::Reads(st);
+    let number = beyond(tape, at, 5, st.rows, 600, 5);
+    Passed { number, at, st }
+}
+
+// Rows, the project and the start.
+fn opening(tape: &[u8]) -> Passed
+    ensures { λ r. ⌜ Opened (now (tape .entry)) r ⌝ }
+{
+    let read = rows(tape);
+    let st = read.st;
+    if read.number != 0 {
+        return read;
     }
-    Reading::Refused {
-        number: 2,
-        place: at,
+    let number = project(tape, read.at, st);
+    if number != 0 {
+        return Passed {
+            number,
+            at: read.at,
+            st,
+        };
     }
+    let at = read.at + 5;
+    let begun = in_phase(1, st);
+    let number = start(tape, at, begun);
+    if number != 0 {
+        return Passed {
+            number,
+            at,
+            st: begun,
+        };
+    }
+    Passed {
+        number,
+        at: at + 13,
+        st: in_phase(2, begun),
+    }
+}
+
+fn legs(tape: &[u8], from: usize, begun: State) -> Passed
+    requires { ⌜ from ≤ length (now tape) ⌝ }
+    requires { ⌜ (begun .phase ≡ 2) × (begun .legs ≡ 0) ⌝ }
+    ensures { λ r. ⌜ Ran (now (tape .entry)) begun from 3 r ⌝ }
+{
+    let end = least(places(tape, 8), from + 576);
+    let mut at = from;
+    let mut st = begun;
+    while more(tape, at, 3, end) {
+        let number = leg(tape, at, st);
+        if number != 0 {
+            return Passed { number, at, st };
+        }
+        st.legs = st.legs + 1;
+        at = at + 9;
+    }
+    let number = beyond(tape, at, 3, st.legs, 64, 6);
+    Passed { number, at, st }
+}
+
+// The close and the end.
+fn finish(tape: &[u8], at: usize, st: State) -> Reading
+    requires { ⌜ (getD (now tape) at 0 ≡ 3 → ⊥) ⌝ }
+    requires { ⌜ st .phase ≡ 2 ⌝ }
+    ensures { λ r. ⌜ r ≡ onward (now (tape .entry)) st at ⌝ }
+{
+    let number = close(tape, at, st);
+    if number != 0 {
+        return Reading::Refused { number, place: at };
+    }
+    if at + 17 < tape.len() {
+        return Reading::Refused {
+            number: 3,
+            place: at + 17,
+        };
+    }
+    Reading::Reads(in_phase(3, st))
+}
+
+// The whole tape: one pass, and nothing is copied.
+pub fn read_all(tape: &[u8]) -> Reading
+    ensures { λ r. ⌜ r ≡ readingOf (now (tape .entry)) ⌝ }
+{
+    let begun = opening(tape);
+    let st = begun.st;
+    if begun.number != 0 {
+        return Reading::Refused {
+            number: begun.number,
+            place: begun.at,
+        };
+    }
+    let ran = legs(tape, begun.at, st);
+    let last = ran.st;
+    if ran.number != 0 {
+        return Reading::Refused {
+            number: ran.number,
+            place: ran.at,
+        };
+    }
+    finish(tape, ran.at, last)
 }

@@ -31,7 +31,7 @@ pub fn row_good(minute: u32, factor: u32) -> bool
     factor <= 10010000
 }
 
-fn project_good(latitude: u32, elevation: Whole) -> bool
+pub fn project_good(latitude: u32, elevation: Whole) -> bool
     ensures { λ r. ⌜ r ≡ goodOf 1 (pos latitude ∷ elevation .v ∷ []) ⌝ }
 {
     if 5400 < latitude {
@@ -43,7 +43,7 @@ fn project_good(latitude: u32, elevation: Whole) -> bool
     elevation.size() <= 20000
 }
 
-fn start_good(northing: u32, easting: u32, mark: u32) -> bool
+pub fn start_good(northing: u32, easting: u32, mark: u32) -> bool
     ensures { λ r. ⌜ r ≡ goodOf 2 (pos northing ∷ pos easting ∷ pos mark ∷ []) ⌝ }
 {
     if 1000000000 < northing {
@@ -67,7 +67,7 @@ pub fn leg_good(angle: u32, distance: u32) -> bool
     distance <= 20000000
 }
 
-fn close_good(angle: u32, northing: u32, easting: u32, mark: u32) -> bool
+pub fn close_good(angle: u32, northing: u32, easting: u32, mark: u32) -> bool
     ensures { λ r. ⌜ r ≡ goodOf 4 (pos angle ∷ pos northing ∷ pos easting ∷ pos mark ∷ []) ⌝ }
 {
     if 12959999 < angle {

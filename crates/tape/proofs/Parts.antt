@@ -1,0 +1,250 @@
+-- The parts of a tape. Rows, and legs, follow each other before an end that is known at the start, so that each place is so many records on; and the parts
+-- follow each other, so that the reading of the whole is that of the first part that is refused, or of all.
+use Prim.Native.Nat.{ℕ, _+_, _-_, _*_, _≤_, _<_}
+use native.Mathlib.Decide.{decLt, ℕ-discrete}
+use native.Mathlib.Omega.{arith}
+use mathlib.Core.Path.{_≡_, refl, sym, _∙_, ap}
+use mathlib.Core.List.{List}
+use mathlib.Core.Bool.{Bool, true, false, cond}
+use mir.Syntax.{w32}
+use mir.Val.{Fits}
+use lib.Dec.{eqb, ltb}
+use lib.ListN.{length, getD, List·getD-eq-default}
+use borrow.Author.Tests.{lt-ltb, le-ltb, eq-eqb, ne-eqb, eqb-true}
+use Rattle.tape.specs.Bytes.{two, num}
+use Rattle.tape.specs.Record.{bodyOf, fieldsOf, table}
+use Rattle.tape.specs.Tape.{Stop, mayCome, roomOf, start, readingOf}
+use Rattle.tape.specs.Passing.{to, onward, Passes, Ran, Opened}
+use Rattle.tape.specs.declared.State.{State}
+use Rattle.tape.specs.declared.Passed.{Passed}
+use Rattle.tape.specs.declared.Reading.{Reading}
+use Rattle.tape.specs.declared.Reading.the-variants.{Refused, Reads}
+use Rattle.tape.proofs.Held.{no as never}
+use Rattle.tape.proofs.Walk.{walk-stop, walk-closed}
+use Rattle.tape.proofs.Passing.{fails, goes-on, other-kind, one-too-many, cut-short, row-comes, leg-comes}
+
+-- ---- records of a kind in a run, so many of them, each so long: they stand before the end that the limit and the tape leave them
+pub record Along (s : List ℕ) (first : State) (from long limit end count : ℕ) (st : State) (at : ℕ) : Type 0 where
+  pub place : at ≡ from + long * count
+  pub within : at ≤ length s
+  pub inside : end ≤ length s - (long - 1)
+  pub few : end ≤ from + long * limit
+  pub last : end < from + long * limit → end ≡ length s - (long - 1)
+  pub phase : st .phase ≡ first .phase
+  pub same : onward s st at ≡ onward s first from
+
+module _ (s : List ℕ) (first : State) (from : ℕ) (st : State) (at : ℕ) where
+  -- one more stands before the end, or the run is over
+  module _ (k end : ℕ) (r : Bool) (e : r ≡ cond (ltb at end) (eqb (getD s at 0) k) false) where
+    one-stands : r ≡ true → (at < end) × (getD s at 0 ≡ k)
+    one-stands t =
+        elim (decLt at end) [
+          | yes h ↦ (h, eqb-true (getD s at 0) k (sym (rw (lt-ltb at end h) at e) ∙ t))
+          | no h ↦ never (sym (rw (le-ltb at end (omega arith)) at e) ∙ t)
+        ]
+
+    none-stands : r ≡ false → getD s at 0 ≡ k → end ≤ at
+    none-stands f i =
+        elim (decLt at end) [
+          | yes h ↦ never (sym f ∙ rw (lt-ltb at end h, eq-eqb (getD s at 0) k i) at e)
+          | no h ↦ omega arith
+        ]
+
+  module _ (phase : st .phase ≡ first .phase) (within : at ≤ length s) (same : onward s st at ≡ onward s first from) where
+    -- a record that is refused ends the run there
+    stopped : (k n : ℕ) (u : State) (b : ℕ) → Passes s st at n u b → (n ≡ 0 → ⊥) → Ran s first from k (record { number = n; at = at; st = st })
+    stopped k n u b h z =
+        record {
+          same = sym same ∙ h .same ∙ rw (ne-eqb n 0 z);
+          within = within;
+          phase = phase;
+          none = λ y. absurd (z y);
+        }
+
+    -- where none stands, or none has room
+    over : (k count limit number n : ℕ) → 0 < k → 0 < number → mayCome st k ≡ true → roomOf st k ≡ cond (ltb count limit) 0 number
+        → (getD s at 0 ≡ k → count < limit → length s - at ≤ bodyOf k)
+        → n ≡ cond (ltb at (length s)) (cond (eqb (getD s at 0) k) (cond (ltb count limit) 2 number) 0) 0 → Ran s first from k (record { number = n; at = at; st = st })
+    over k count limit number n positive refusal comes room short e =
+        elim (decLt at (length s)) [
+          | yes low ↦ elim (ℕ-discrete (getD s at 0) k) [
+            | yes i ↦ elim (decLt count limit) [
+              | yes l ↦
+                  let two : n ≡ 2 = rw (lt-ltb at (length s) low, eq-eqb (getD s at 0) k i, lt-ltb count limit l) at e in
+                  rw two (stopped k 2 st at (fails s st at 2 st at low (omega arith) (cut-short s st at k i comes (room ∙ rw (lt-ltb count limit l)) (short i l))) (λ z. omega arith))
+              | no l ↦
+                  let full : n ≡ number = rw (lt-ltb at (length s) low, eq-eqb (getD s at 0) k i, le-ltb count limit (omega arith)) at e in
+                  rw full
+                  (stopped k number st at (fails s st at number st at low refusal (one-too-many s st at k i comes number (room ∙ rw (le-ltb count limit (omega arith))) refusal)) (λ z. omega arith))
+            ]
+            | no i ↦ none (rw (lt-ltb at (length s) low, ne-eqb (getD s at 0) k i) at e) i
+          ]
+          | no high ↦
+              none (rw (le-ltb at (length s) (omega arith)) at e)
+              (λ i. let zero = List·getD-eq-default s 0 {n = at} (omega arith) in omega arith)
+        ]
+      where
+        none : n ≡ 0 → (getD s at 0 ≡ k → ⊥) → Ran s first from k (record { number = n; at = at; st = st })
+        none z i = record { same = rw z (sym same); within = within; phase = phase; none = λ y. i }
+
+  -- ---- along a run
+  module _ (long limit end count : ℕ) (a : Along s first from long limit end count st at) where
+    pub run-stopped : (k n : ℕ) (u : State) (b : ℕ) → Passes s st at n u b → (n ≡ 0 → ⊥) → Ran s first from k (record { number = n; at = at; st = st })
+    run-stopped = stopped (a .phase) (a .within) (a .same)
+
+    pub run-next : (n : ℕ) (u : State) → Passes s st at n u (at + long) → n ≡ 0 → u .phase ≡ first .phase → Along s first from long limit end (count + 1) u (at + long)
+    run-next n u h z p =
+        record {
+          place = omega (arith, a .place);
+          within = h .within z;
+          inside = a .inside;
+          few = a .few;
+          last = a .last;
+          phase = p;
+          same = sym (goes-on s st at n u (at + long) h z) ∙ a .same;
+        }
+
+-- before the first
+pub run-begins : (s : List ℕ) (first : State) (from long limit end count bytes places : ℕ) → bytes ≡ length s - (long - 1) → places ≡ from + long * limit
+    → end ≤ bytes → end ≤ places → (end < places → end ≡ bytes) → from ≤ length s → count ≡ 0 → Along s first from long limit end count first from
+run-begins s first from long limit end count bytes places b l e f g h z =
+    record {
+      place = rw z (omega arith);
+      within = h;
+      inside = rw (← b) e;
+      few = rw (← l) f;
+      last = λ i. rw (← b) (g (rw l i));
+      phase = refl;
+      same = refl;
+    }
+
+pub rows-begin : (s : List ℕ) (end bytes : ℕ) → bytes ≡ length s - 6 → end ≤ bytes → end ≤ 4200 → (end < 4200 → end ≡ bytes) → Along s start 0 7 600 end 0 start 0
+rows-begin s end bytes b e f g = run-begins s start 0 7 600 end 0 bytes 4200 b refl e f g (omega arith) refl
+
+-- ---- the rows, and the legs
+module _ (s : List ℕ) (end : ℕ) (st : State) (at : ℕ) where
+  module _ (a : Along s start 0 7 600 end (st .rows) st at) where
+    module _ (r : Bool) (e : r ≡ cond (ltb at end) (eqb (getD s at 0) 5) false) (t : r ≡ true) where
+      pub row-here : getD s at 0 ≡ 5
+      row-here = one-stands s start 0 st at 5 end r e t .1
+
+      pub row-fits : at + 7 ≤ length s
+      row-fits = omega (arith, one-stands s start 0 st at 5 end r e t, a .inside)
+
+      pub row-few : st .rows < 600
+      row-few = omega (arith, one-stands s start 0 st at 5 end r e t, a .place, a .few)
+
+      pub row-counts : Fits w32 (st .rows + 1)
+      row-counts = omega (arith, row-few)
+
+      pub row-minute : at + 1 + 2 ≤ length s
+      row-minute = omega (arith, row-fits)
+
+      pub row-less : length s - (at + 7) < length s - at
+      row-less = omega (arith, row-fits)
+
+    pub row-run : (n m : ℕ) → Passes s st at n (record { phase = 0; rows = st .rows + 1; next = num two s (at + 1) + 1; legs = st .legs }) (at + 7) → n ≡ 0 → m ≡ num two s (at + 1)
+        → Along s start 0 7 600 end (st .rows + 1) (record { phase = st .phase; rows = st .rows + 1; next = m + 1; legs = st .legs }) (at + 7)
+    row-run n m h z e = rw (a .phase, e) (run-next s start 0 st at 7 600 end (st .rows) a n _ h z refl)
+
+    pub rows-over : (r : Bool) (n : ℕ) → r ≡ cond (ltb at end) (eqb (getD s at 0) 5) false → r ≡ false
+        → n ≡ cond (ltb at (length s)) (cond (eqb (getD s at 0) 5) (cond (ltb (st .rows) 600) 2 5) 0) 0 → Ran s start 0 5 (record { number = n; at = at; st = st })
+    unfolding roomOf bodyOf fieldsOf table
+    rows-over r n e f g =
+        over s start 0 st at (a .phase) (a .within) (a .same) 5 (st .rows) 600 5 n (omega arith) (omega arith) (row-comes s st at (a .phase)) refl short g
+      where
+        short : getD s at 0 ≡ 5 → st .rows < 600 → length s - at ≤ 6
+        short i l = let h = none-stands s start 0 st at 5 end r e f i in omega (arith, a .place, a .last (omega (arith, a .place)))
+
+  module _ (first : State) (from : ℕ) (p : first .phase ≡ 2) (a : Along s first from 9 64 end (st .legs) st at) where
+    module _ (r : Bool) (e : r ≡ cond (ltb at end) (eqb (getD s at 0) 3) false) (t : r ≡ true) where
+      pub leg-here : getD s at 0 ≡ 3
+      leg-here = one-stands s first from st at 3 end r e t .1
+
+      pub leg-phase : st .phase ≡ 2
+      leg-phase = a .phase ∙ p
+
+      pub leg-fits : at + 9 ≤ length s
+      leg-fits = omega (arith, one-stands s first from st at 3 end r e t, a .inside)
+
+      pub leg-few : st .legs < 64
+      leg-few = omega (arith, one-stands s first from st at 3 end r e t, a .place, a .few)
+
+      pub leg-counts : Fits w32 (st .legs + 1)
+      leg-counts = omega (arith, leg-few)
+
+      pub leg-less : length s - (at + 9) < length s - at
+      leg-less = omega (arith, leg-fits)
+
+    pub leg-run : (n : ℕ) → Passes s st at n (record { phase = 2; rows = st .rows; next = st .next; legs = st .legs + 1 }) (at + 9) → n ≡ 0
+        → Along s first from 9 64 end (st .legs + 1) (record { phase = st .phase; rows = st .rows; next = st .next; legs = st .legs + 1 }) (at + 9)
+    leg-run n h z = let e : st .phase ≡ 2 = a .phase ∙ p in rw e (run-next s first from st at 9 64 end (st .legs) a n _ h z (sym p))
+
+    pub legs-over : (r : Bool) (n : ℕ) → r ≡ cond (ltb at end) (eqb (getD s at 0) 3) false → r ≡ false
+        → n ≡ cond (ltb at (length s)) (cond (eqb (getD s at 0) 3) (cond (ltb (st .legs) 64) 2 6) 0) 0 → Ran s first from 3 (record { number = n; at = at; st = st })
+    unfolding roomOf bodyOf fieldsOf table
+    legs-over r n e f g =
+        over s first from st at (a .phase) (a .within) (a .same) 3 (st .legs) 64 6 n (omega arith) (omega arith) (leg-comes s st at (a .phase ∙ p)) refl short g
+      where
+        short : getD s at 0 ≡ 3 → st .legs < 64 → length s - at ≤ 8
+        short i l = let h = none-stands s first from st at 3 end r e f i in omega (arith, a .place, a .last (omega (arith, a .place)))
+
+-- ---- behind the close nothing may stand
+module _ (s : List ℕ) (st : State) (at n : ℕ) (u : State) (b : ℕ) (h : Passes s st at n u b) (z : n ≡ 0) (p : u .phase ≡ 3) where
+  pub more-behind : b < length s → Refused 3 b ≡ onward s st at
+  unfolding mayCome
+  more-behind low = walk-stop s u b (Stop 3) 3 _ refl (sym (other-kind s u b (getD s b 0) refl (rw p))) low (sym (goes-on s st at n u b h z))
+
+  pub all-read : (v : State) → v ≡ u → length s ≤ b → Reads v ≡ onward s st at
+  all-read v e high = ap Reads e ∙ walk-closed s u b _ high (sym (goes-on s st at n u b h z)) p
+
+-- ---- what stands before the legs
+module _ (s : List ℕ) (r : Passed) (ran : Ran s start 0 5 r) where
+  pub rows-refused : (r .number ≡ 0 → ⊥) → Opened s r
+  unfolding readingOf
+  rows-refused z = record { same = ran .same; within = λ y. absurd (z y); phase = λ y. absurd (z y); legs = λ y. absurd (z y) }
+
+  module _ (read : r .number ≡ 0) (st : State) (is : st ≡ r .st) (n : ℕ) (project : Passes s st (r .at) n (to 1 st) (r .at + 5)) where
+    rows-read : readingOf s ≡ onward s st (r .at)
+    unfolding readingOf
+    rows-read = ran .same ∙ rw (read, is)
+
+    stops : (m at : ℕ) (u : State) → (m ≡ 0 → ⊥) → readingOf s ≡ Refused m at → Opened s (record { number = m; at = at; st = u })
+    stops m at u z e = record { same = rw (ne-eqb m 0 z) e; within = λ y. absurd (z y); phase = λ y. absurd (z y); legs = λ y. absurd (z y) }
+
+    pub project-refused : (n ≡ 0 → ⊥) → Opened s (record { number = n; at = r .at; st = st })
+    project-refused z = stops n (r .at) st z (rows-read ∙ project .same ∙ rw (ne-eqb n 0 z))
+
+    module _ (passed : n ≡ 0) (at m : ℕ) (begun : State) (behind : at ≡ r .at + 5) (phase : begun ≡ to 1 st) (start : Passes s begun at m (to 2 begun) (at + 13)) where
+      project-read : readingOf s ≡ onward s begun at
+      project-read = rows-read ∙ project .same ∙ rw (passed, behind, phase)
+
+      pub start-refused : (m ≡ 0 → ⊥) → Opened s (record { number = m; at = at; st = begun })
+      start-refused z = stops m at begun z (project-read ∙ start .same ∙ rw (ne-eqb m 0 z))
+
+      pub start-read : (u : State) → u ≡ to 2 begun → r .st .legs ≡ 0 → m ≡ 0 → Opened s (record { number = m; at = at + 13; st = u })
+      start-read u e l z =
+          record {
+            same = project-read ∙ start .same ∙ rw (z, e);
+            within = start .within;
+            phase = λ y. rw e;
+            legs = λ y. rw (e, phase, is) l;
+          }
+
+-- ---- and the whole
+module _ (s : List ℕ) (r : Passed) (opened : Opened s r) where
+  pub opening-refused : (r .number ≡ 0 → ⊥) → Refused (r .number) (r .at) ≡ readingOf s
+  opening-refused z = sym (opened .same ∙ rw (ne-eqb (r .number) 0 z))
+
+  module _ (read : r .number ≡ 0) (st : State) (is : st ≡ r .st) (l : Passed) (ran : Ran s st (r .at) 3 l) where
+    legs-next : readingOf s ≡ onward s st (r .at)
+    legs-next = opened .same ∙ rw (read, is)
+
+    pub legs-refused : (l .number ≡ 0 → ⊥) → Refused (l .number) (l .at) ≡ readingOf s
+    legs-refused z = sym (legs-next ∙ ran .same ∙ rw (ne-eqb (l .number) 0 z))
+
+    pub last-phase : (last : State) → last ≡ l .st → last .phase ≡ 2
+    last-phase last e = rw e (ran .phase ∙ rw is (opened .phase read))
+
+    pub legs-read : (last : State) (w : Reading) → last ≡ l .st → w ≡ onward s last (l .at) → l .number ≡ 0 → w ≡ readingOf s
+    legs-read last w e f z = f ∙ sym (legs-next ∙ ran .same ∙ rw (z, e))

@@ -1,0 +1,38 @@
+-- `start` meets its contract: nothing else may stand there, and the tests are those of any record.
+use borrow.Author.Needs.{needs}
+use Rattle.tape.proofs.Passing.{due-within, no-start, start-short, start-passes, start-bad}
+use Rattle.tape.proofs.order.start.Statement.{statement}
+use Rattle.tape.proofs.order.start.Tie as tie
+
+returns : tie.Need-returns
+returns c = search no-start
+
+sub-if2 : tie.Need-sub-if2
+sub-if2 c = search due-within
+
+returns-2 : tie.Need-returns-2
+returns-2 c = search start-short
+
+returns-3 : tie.Need-returns-3
+returns-3 c = search start-passes
+
+returns-4 : tie.Need-returns-4
+returns-4 c = search start-bad
+
+pub start-spec : {M : Type 1} → statement M
+start-spec =
+    tie.close
+    (tie.spec
+    (λ c κs. search needs)
+    returns
+    sub-if2
+    returns-2
+    (λ c. search needs)
+    (λ c κs. search needs)
+    (λ c. search needs)
+    (λ c κs. search needs)
+    (λ c. search needs)
+    (λ c κs. search needs)
+    (λ c κs. search needs)
+    returns-3
+    returns-4)
