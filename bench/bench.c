@@ -71,6 +71,8 @@ struct table {
 
 static const struct table traverse = {"traverse", "traverse", {traverse_desk, traverse_lent, traverse_plain}};
 static const struct table sheet = {"sheet", "sheet", {sheet_desk, sheet_lent, sheet_plain}};
+static const struct table refusals = {"refusals", "traverse refused", {traverse_desk, traverse_lent, traverse_plain}};
+static const struct table no_sheets = {"no sheets", "sheet refused", {sheet_desk, sheet_lent, sheet_plain}};
 static const struct table legs = {"legs", "traverse by legs, 2 rows", {traverse_desk, traverse_lent, traverse_plain}};
 static const struct table rows = {"rows", "traverse by rows, 4 legs", {traverse_desk, traverse_lent, traverse_plain}};
 
@@ -81,7 +83,8 @@ struct line {
     uint32_t number; /* what it is to be answered with */
 };
 
-static struct line lines[40];
+enum { MOST_LINES = 40 };
+static struct line lines[MOST_LINES];
 static size_t line_count;
 
 static void add(const struct table *table, const char *name, struct tape tape, uint32_t number) {
@@ -93,23 +96,34 @@ static void add(const struct table *table, const char *name, struct tape tape, u
 }
 
 static void add_named(const struct table *table) {
-    add(table, "4 legs 2 rows", traverse_tape(4, 2, 0), 0);
-    add(table, "16 legs 2 rows", traverse_tape(16, 2, 0), 0);
-    add(table, "64 legs 2 rows", traverse_tape(64, 2, 0), 0);
-    add(table, "4 legs 600 rows", traverse_tape(4, 600, 0), 0);
-    add(table, "refused late: 9 after 64 legs", traverse_tape(64, 2, 100), 9);
-    add(table, "refused early: 3 at byte 0", no_tape(), 3);
+    add(table, "4 legs 2 rows", traverse_tape(4, 2, NO_FAULT), 0);
+    add(table, "16 legs 2 rows", traverse_tape(16, 2, NO_FAULT), 0);
+    add(table, "64 legs 2 rows", traverse_tape(64, 2, NO_FAULT), 0);
+    add(table, "4 legs 600 rows", traverse_tape(4, 600, NO_FAULT), 0);
+}
+
+/* By how much of the tape is read and worked before it is refused. */
+static void add_refused(const struct table *table) {
+    add(table, "3 at byte 0", no_tape(), 3);
+    add(table, "4 at the close of 4 legs", traverse_tape(4, 2, WRONG_CLOSE), 4);
+    add(table, "4 at the close of 64 legs", traverse_tape(64, 2, WRONG_CLOSE), 4);
+    add(table, "4 at the close behind 600 rows", traverse_tape(4, 600, WRONG_CLOSE), 4);
+    add(table, "8 after 64 legs", traverse_tape(64, 2, WRONG_AZIMUTH), 8);
+    add(table, "9 after 4 legs", traverse_tape(4, 2, WRONG_POINT), 9);
+    add(table, "9 after 64 legs", traverse_tape(64, 2, WRONG_POINT), 9);
 }
 
 static void add_growth(const struct table *table, uint32_t at, uint32_t with_legs, uint32_t with_rows) {
     char name[16];
     snprintf(name, sizeof name, "%u", (unsigned)at);
-    add(table, name, traverse_tape(with_legs, with_rows, 0), with_rows == 0 ? 7 : 0); /* no row for the latitude */
+    add(table, name, traverse_tape(with_legs, with_rows, NO_FAULT), with_rows == 0 ? 7 : 0); /* no row for the latitude */
 }
 
 static void add_all(void) {
     add_named(&traverse);
+    add_refused(&refusals);
     add_named(&sheet);
+    add_refused(&no_sheets);
     for (uint32_t n = 1; n <= 64; n *= 2)
         add_growth(&legs, n, n, 2);
     add_growth(&rows, 0, 4, 0);
@@ -162,7 +176,7 @@ static void demand_equal(const struct line *line) {
 
 /* ---- What a call costs */
 
-enum { ROUNDS = 15 };
+enum { ROUNDS = 5, PASSES = 8 };
 static const double BATCH_NS = 2e6;
 
 static double now_ns(void) {
@@ -183,7 +197,6 @@ static double batch_ns(call *form, const struct tape *t, unsigned long calls) {
 static void time_calls(const struct line *line, double cost[FORMS]) {
     unsigned long calls[FORMS];
     for (enum form f = 0; f < FORMS; f++) {
-        cost[f] = 1e18;
         calls[f] = 1;
         while (batch_ns(line->table->forms[f], &line->tape, calls[f]) < BATCH_NS)
             calls[f] *= 2;
@@ -194,6 +207,16 @@ static void time_calls(const struct line *line, double cost[FORMS]) {
             if (ns < cost[f])
                 cost[f] = ns;
         }
+}
+
+/* All lines in turn, some seconds apart, and again the least time: a machine may be disturbed for a second or two. */
+static void time_lines(double cost[][FORMS]) {
+    for (size_t i = 0; i < line_count; i++)
+        for (enum form f = 0; f < FORMS; f++)
+            cost[i][f] = 1e18;
+    for (int pass = 0; pass < PASSES; pass++)
+        for (size_t i = 0; i < line_count; i++)
+            time_calls(&lines[i], cost[i]);
 }
 
 /* A name to find in a trace of the program, so neither inlined nor left out. */
@@ -210,12 +233,13 @@ static void mark_calls(const struct line *line) {
     }
 }
 
-static void take_counts(double cost[FORMS]) {
-    for (enum form f = 0; f < FORMS; f++)
-        if (scanf("%lf", &cost[f]) != 1) {
-            fputs("a count is missing\n", stderr);
-            exit(1);
-        }
+static void take_counts(double cost[][FORMS]) {
+    for (size_t i = 0; i < line_count; i++)
+        for (enum form f = 0; f < FORMS; f++)
+            if (scanf("%lf", &cost[i][f]) != 1) {
+                fputs("a count is missing\n", stderr);
+                exit(1);
+            }
 }
 
 /* ---- What is printed */
@@ -242,22 +266,22 @@ static void print_costs(const struct line *line, const double cost[FORMS]) {
         for (enum form f = 0; f < FORMS; f++)
             printf("%s,%s,%s,%.1f\n", line->table->name, line->name, form_names[f], cost[f]);
     else
-        printf("%-32s %10.0f %12.0f %10.0f %8.1f %8.1f\n", line->name, cost[DESK], cost[LENT], cost[PLAIN],
+        printf("%-32s %10.1f %12.1f %10.1f %8.2f %8.2f\n", line->name, cost[DESK], cost[LENT], cost[PLAIN],
                cost[DESK] / cost[PLAIN], cost[LENT] / cost[PLAIN]);
     fflush(stdout);
 }
 
 static void print_all(void) {
+    static double cost[MOST_LINES][FORMS];
+    if (asked.counted)
+        take_counts(cost);
+    else
+        time_lines(cost);
     print_first();
     for (size_t i = 0; i < line_count; i++) {
-        double cost[FORMS];
-        if (asked.counted)
-            take_counts(cost);
-        else
-            time_calls(&lines[i], cost);
         if (i == 0 || lines[i].table != lines[i - 1].table)
             print_title(lines[i].table->title);
-        print_costs(&lines[i], cost);
+        print_costs(&lines[i], cost[i]);
     }
 }
 

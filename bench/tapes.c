@@ -47,7 +47,7 @@ static uint32_t turned(uint32_t from, uint32_t to) {
     return (to + CIRCLE - from) % CIRCLE;
 }
 
-struct tape traverse_tape(uint32_t legs, uint32_t rows, uint32_t feet_off) {
+struct tape traverse_tape(uint32_t legs, uint32_t rows, enum fault fault) {
     struct tape t = {.length = 0};
     uint8_t *out = t.bytes;
     size_t room = sizeof t.bytes, at = 0, place;
@@ -63,8 +63,12 @@ struct tape traverse_tape(uint32_t legs, uint32_t rows, uint32_t feet_off) {
         sure(vas_write_leg(out, room, at, angle, distance, &place, &at));
         back = turned(HALF_CIRCLE, s.azimuth);
     }
-    uint32_t north = NORTH + (legs == 1 ? side(0, 1).distance / 10 : 0) + 100 * feet_off;
-    sure(vas_write_close(out, room, at, turned(back, MARK), north, EAST, MARK, &place, &at));
+    uint32_t north = NORTH + (legs == 1 ? side(0, 1).distance / 10 : 0) + (fault == WRONG_POINT ? 10000 : 0);
+    uint32_t mark = MARK + (fault == WRONG_AZIMUTH ? 500000 : 0);
+    uint8_t *close = out + at;
+    sure(vas_write_close(out, room, at, turned(back, MARK), north, EAST, mark, &place, &at));
+    if (fault == WRONG_CLOSE)
+        close[1] = 0xff; /* the writer writes no such angle */
     t.length = at;
     return t;
 }

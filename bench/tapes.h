@@ -12,9 +12,12 @@ struct tape {
     size_t length;
 };
 
-/* A loop of 2, 4, .. 64 legs behind 0 to 600 rows, or a line of one leg. The closing point is written so many feet
- * north of where it stands: 0 for a tape that is accepted. */
-struct tape traverse_tape(uint32_t legs, uint32_t rows, uint32_t feet_off);
+/* What is wrong with the close of a tape: nothing, its closing point a hundred feet off (9), its azimuth 14 degrees off
+ * (8), its angle out of range (4). */
+enum fault { NO_FAULT, WRONG_POINT, WRONG_AZIMUTH, WRONG_CLOSE };
+
+/* A loop of 2, 4, .. 64 legs behind 0 to 600 rows, or a line of one leg. */
+struct tape traverse_tape(uint32_t legs, uint32_t rows, enum fault fault);
 
 /* A tape of one byte, which is no kind. */
 struct tape no_tape(void);

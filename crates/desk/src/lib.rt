@@ -77,7 +77,7 @@ fn work(table: &[u32], tape: &[u8], c: Control, words: &mut [i64]) -> Answer
     }
 }
 
-// The whole by the sines of a lent table, whatever it holds: a tape in, an adjusted traverse out. An entry that the table does not have is the desk's own.
+// The whole by the sines of a lent table, whatever it holds: a tape in, an adjusted traverse out. A list too short for a table lends nothing.
 // No word is written on a refusal. A caller who works many tapes takes the desk's table once and lends it.
 pub fn traverse_in(table: &[u32], tape: &[u8], words: &mut [i64]) -> Answer
     ensures answer { λ r. ⌜ told r ≡ traversedBy (entryIn (now (table .entry))) (now (tape .entry)) (length (now (words .entry))) ⌝ }
