@@ -13,7 +13,6 @@ use Rattle.whole.proofs.Filling.{filled-length, filled-at, filled-behind}
 use Rattle.tape.specs.Bytes.{fourAt}
 use Rattle.tape.specs.Tape.{readingOf}
 use Rattle.tape.specs.Fields.{fieldsOf, controlOf, takenIf, takenOf, DoesRead}
-use Rattle.tape.specs.declared.State.{State}
 use Rattle.tape.specs.declared.Control.{Control}
 use Rattle.tape.specs.declared.Reading.{Reading}
 use Rattle.tape.specs.declared.Reading.the-variants as reading

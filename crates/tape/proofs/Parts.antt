@@ -2,6 +2,7 @@
 -- follow each other, so that the reading of the whole is that of the first part that is refused, or of all.
 use Prim.Native.Nat.{ℕ, _+_, _-_, _*_, _≤_, _<_}
 use native.Mathlib.Decide.{decLt, ℕ-discrete}
+use native.Mathlib.Nat.{mul-le-mul-left}
 use native.Mathlib.Omega.{arith}
 use mathlib.Core.Path.{_≡_, refl, sym, _∙_, ap}
 use mathlib.Core.List.{List}
@@ -9,11 +10,11 @@ use mathlib.Core.Bool.{Bool, true, false, cond}
 use mir.Syntax.{w32}
 use mir.Val.{Fits}
 use lib.Dec.{eqb, ltb}
-use lib.ListN.{length, getD, List·getD-eq-default}
+use lib.ListN.{length, getD, drop, List·getD-eq-default}
 use borrow.Author.Tests.{lt-ltb, le-ltb, eq-eqb, ne-eqb, eqb-true}
 use Rattle.tape.specs.Bytes.{two, num}
 use Rattle.tape.specs.Record.{bodyOf, fieldsOf, table}
-use Rattle.tape.specs.Tape.{Stop, mayCome, roomOf, start, readingOf}
+use Rattle.tape.specs.Tape.{Stop, mayCome, roomOf, stepOf, start, readingOf}
 use Rattle.tape.specs.Passing.{to, onward, Passes, Ran, Opened}
 use Rattle.tape.specs.declared.State.{State}
 use Rattle.tape.specs.declared.Passed.{Passed}
@@ -25,6 +26,8 @@ use Rattle.tape.proofs.Passing.{fails, goes-on, other-kind, one-too-man
 
 -- ---- records of a kind in a run, so many of them, each so long: they stand before the end that the limit and the tape leave them
 pub record Along (s : List ℕ) (first : State) (from long limit end count : ℕ) (st : State) (at : ℕ) : Type 0 where
+  pub some : 0 < long
+  pub small : limit ≤ 600
   pub place : at ≡ from + long * count
   pub within : at ≤ length s
   pub inside : end ≤ length s - (long - 1)
@@ -33,16 +36,53 @@ pub record Along (s : List ℕ) (first : State) (from long limit end count : ℕ
   pub phase : st .phase ≡ first .phase
   pub same : onward s st at ≡ onward s first from
 
-module _ (s : List ℕ) (first : State) (from : ℕ) (st : State) (at : ℕ) where
-  -- one more stands before the end, or the run is over
-  module _ (k end : ℕ) (r : Bool) (e : r ≡ cond (ltb at end) (eqb (getD s at 0) k) false) where
-    one-stands : r ≡ true → (at < end) × (getD s at 0 ≡ k)
-    one-stands t =
-        elim (decLt at end) [
-          | yes h ↦ (h, eqb-true (getD s at 0) k (sym (rw (lt-ltb at end h) at e) ∙ t))
-          | no h ↦ never (sym (rw (le-ltb at end (omega arith)) at e) ∙ t)
-        ]
+-- before the first
+run-begins : (s : List ℕ) (first : State) (from long limit end count bytes : ℕ) → 0 < long → limit ≤ 600 → bytes ≡ length s - (long - 1) → end ≤ bytes
+    → end ≤ from + long * limit → (end < from + long * limit → end ≡ bytes) → from ≤ length s → count ≡ 0 → Along s first from long limit end count first from
+run-begins s first from long limit end count bytes some small b e f g h z =
+    record {
+      some = some;
+      small = small;
+      place = rw z (omega arith);
+      within = h;
+      inside = rw (← b) e;
+      few = f;
+      last = λ i. rw (← b) (g i);
+      phase = refl;
+      same = refl;
+    }
 
+module _ (s : List ℕ) (first : State) (from : ℕ) (st : State) (at long limit end count : ℕ) (a : Along s first from long limit end count st at) where
+  -- one of kind k stands before the end, and so there is room for it
+  module _ (k : ℕ) (r : Bool) (e : r ≡ cond (ltb at end) (eqb (getD s at 0) k) false) where
+    module _ (t : r ≡ true) where
+      stands : (at < end) × (getD s at 0 ≡ k)
+      stands =
+          elim (decLt at end) [
+            | yes h ↦ (h, eqb-true (getD s at 0) k (sym (rw (lt-ltb at end h) at e) ∙ t))
+            | no h ↦ never (sym (rw (le-ltb at end (omega arith)) at e) ∙ t)
+          ]
+
+      pub run-here : getD s at 0 ≡ k
+      run-here = stands .1
+
+      pub run-fits : at + long ≤ length s
+      run-fits = omega (arith, stands, a .inside, a .some)
+
+      pub run-few : count < limit
+      run-few =
+          elim (decLt count limit) [
+            | yes h ↦ h
+            | no h ↦ let i : long * limit ≤ long * count = mul-le-mul-left long (omega arith) in absurd (omega (arith, stands, a .place, a .few))
+          ]
+
+      pub run-counts : Fits w32 (count + 1)
+      run-counts = omega (arith, run-few, a .small)
+
+      pub run-less : length s - (at + long) < length s - at
+      run-less = omega (arith, run-fits, a .some)
+
+    -- none does; one that stands there is behind the end
     none-stands : r ≡ false → getD s at 0 ≡ k → end ≤ at
     none-stands f i =
         elim (decLt at end) [
@@ -50,144 +90,100 @@ module _ (s : List ℕ) (first : State) (from : ℕ) (st : State) (at : ℕ) whe
           | no h ↦ omega arith
         ]
 
-  module _ (phase : st .phase ≡ first .phase) (within : at ≤ length s) (same : onward s st at ≡ onward s first from) where
-    -- a record that is refused ends the run there
-    stopped : (k n : ℕ) (u : State) (b : ℕ) → Passes s st at n u b → (n ≡ 0 → ⊥) → Ran s first from k (record { number = n; at = at; st = st })
-    stopped k n u b h z =
-        record {
-          same = sym same ∙ h .same ∙ rw (ne-eqb n 0 z);
-          within = within;
-          phase = phase;
-          none = λ y. absurd (z y);
-        }
+  -- past one more
+  run-next : (n : ℕ) (u : State) → Passes s st at n u (at + long) → n ≡ 0 → u .phase ≡ first .phase → Along s first from long limit end (count + 1) u (at + long)
+  run-next n u h z p =
+      record {
+        some = a .some;
+        small = a .small;
+        place = omega (arith, a .place);
+        within = h .within z;
+        inside = a .inside;
+        few = a .few;
+        last = a .last;
+        phase = p;
+        same = sym (goes-on s st at n u (at + long) h z) ∙ a .same;
+      }
 
-    -- where none stands, or none has room
-    over : (k count limit number n : ℕ) → 0 < k → 0 < number → mayCome st k ≡ true → roomOf st k ≡ cond (ltb count limit) 0 number
-        → (getD s at 0 ≡ k → count < limit → length s - at ≤ bodyOf k)
-        → n ≡ cond (ltb at (length s)) (cond (eqb (getD s at 0) k) (cond (ltb count limit) 2 number) 0) 0 → Ran s first from k (record { number = n; at = at; st = st })
-    over k count limit number n positive refusal comes room short e =
+  -- one that is refused ends the run there
+  pub run-stopped : (k n : ℕ) (u : State) (b : ℕ) → Passes s st at n u b → (n ≡ 0 → ⊥) → Ran s first from k (record { number = n; at = at; st = st })
+  run-stopped k n u b h z =
+      record {
+        same = sym (a .same) ∙ h .same ∙ rw (ne-eqb n 0 z);
+        within = a .within;
+        phase = a .phase;
+        none = λ y. absurd (z y);
+      }
+
+  -- and so does one behind the end, which is cut short or one too many; where none stands the run is over
+  module _ (k number n : ℕ) (body : bodyOf k ≡ long - 1) (comes : mayCome st k ≡ true) (room : roomOf st k ≡ cond (ltb count limit) 0 number) (r : Bool)
+      (e : r ≡ cond (ltb at end) (eqb (getD s at 0) k) false) (f : r ≡ false)
+      (g : n ≡ cond (ltb at (length s)) (cond (eqb (getD s at 0) k) (cond (ltb count limit) 2 number) 0) 0) where
+    over : n ≡ 0 → (getD s at 0 ≡ k → ⊥) → Ran s first from k (record { number = n; at = at; st = st })
+    over z i = record { same = rw z (sym (a .same)); within = a .within; phase = a .phase; none = λ y. i }
+
+    stops-with : (m : ℕ) → 0 < m → n ≡ m → at < length s → stepOf st (drop at s) ≡ Stop m → Ran s first from k (record { number = n; at = at; st = st })
+    stops-with m h z low i = rw z (run-stopped k m st at (fails s st at m st at low h i) (λ y. omega arith))
+
+    short : getD s at 0 ≡ k → count < limit → length s - at ≤ bodyOf k
+    short i l =
+        let h = none-stands k r e f i in
+        let j : long * (count + 1) ≤ long * limit = mul-le-mul-left long (omega arith) in
+        rw body (omega (arith, a .some, a .place, a .last (omega (arith, a .place, a .some))))
+
+    run-over : 0 < k → 0 < number → Ran s first from k (record { number = n; at = at; st = st })
+    run-over positive refusal =
         elim (decLt at (length s)) [
           | yes low ↦ elim (ℕ-discrete (getD s at 0) k) [
             | yes i ↦ elim (decLt count limit) [
               | yes l ↦
-                  let two : n ≡ 2 = rw (lt-ltb at (length s) low, eq-eqb (getD s at 0) k i, lt-ltb count limit l) at e in
-                  rw two (stopped k 2 st at (fails s st at 2 st at low (omega arith) (cut-short s st at k i comes (room ∙ rw (lt-ltb count limit l)) (short i l))) (λ z. omega arith))
+                  stops-with 2 (omega arith) (rw (lt-ltb at (length s) low, eq-eqb (getD s at 0) k i, lt-ltb count limit l) at g) low
+                  (cut-short s st at k i comes (room ∙ rw (lt-ltb count limit l)) (short i l))
               | no l ↦
-                  let full : n ≡ number = rw (lt-ltb at (length s) low, eq-eqb (getD s at 0) k i, le-ltb count limit (omega arith)) at e in
-                  rw full
-                  (stopped k number st at (fails s st at number st at low refusal (one-too-many s st at k i comes number (room ∙ rw (le-ltb count limit (omega arith))) refusal)) (λ z. omega arith))
+                  stops-with number refusal (rw (lt-ltb at (length s) low, eq-eqb (getD s at 0) k i, le-ltb count limit (omega arith)) at g) low
+                  (one-too-many s st at k i comes number (room ∙ rw (le-ltb count limit (omega arith))) refusal)
             ]
-            | no i ↦ none (rw (lt-ltb at (length s) low, ne-eqb (getD s at 0) k i) at e) i
+            | no i ↦ over (rw (lt-ltb at (length s) low, ne-eqb (getD s at 0) k i) at g) i
           ]
           | no high ↦
-              none (rw (le-ltb at (length s) (omega arith)) at e)
-              (λ i. let zero = List·getD-eq-default s 0 {n = at} (omega arith) in omega arith)
+              over (rw (le-ltb at (length s) (omega arith)) at g) (λ i. let zero = List·getD-eq-default s 0 {n = at} (omega arith) in omega arith)
         ]
-      where
-        none : n ≡ 0 → (getD s at 0 ≡ k → ⊥) → Ran s first from k (record { number = n; at = at; st = st })
-        none z i = record { same = rw z (sym same); within = within; phase = phase; none = λ y. i }
 
-  -- ---- along a run
-  module _ (long limit end count : ℕ) (a : Along s first from long limit end count st at) where
-    pub run-stopped : (k n : ℕ) (u : State) (b : ℕ) → Passes s st at n u b → (n ≡ 0 → ⊥) → Ran s first from k (record { number = n; at = at; st = st })
-    run-stopped = stopped (a .phase) (a .within) (a .same)
-
-    pub run-next : (n : ℕ) (u : State) → Passes s st at n u (at + long) → n ≡ 0 → u .phase ≡ first .phase → Along s first from long limit end (count + 1) u (at + long)
-    run-next n u h z p =
-        record {
-          place = omega (arith, a .place);
-          within = h .within z;
-          inside = a .inside;
-          few = a .few;
-          last = a .last;
-          phase = p;
-          same = sym (goes-on s st at n u (at + long) h z) ∙ a .same;
-        }
-
--- before the first
-pub run-begins : (s : List ℕ) (first : State) (from long limit end count bytes places : ℕ) → bytes ≡ length s - (long - 1) → places ≡ from + long * limit
-    → end ≤ bytes → end ≤ places → (end < places → end ≡ bytes) → from ≤ length s → count ≡ 0 → Along s first from long limit end count first from
-run-begins s first from long limit end count bytes places b l e f g h z =
-    record {
-      place = rw z (omega arith);
-      within = h;
-      inside = rw (← b) e;
-      few = rw (← l) f;
-      last = λ i. rw (← b) (g (rw l i));
-      phase = refl;
-      same = refl;
-    }
-
+-- ---- the rows
 pub rows-begin : (s : List ℕ) (end bytes : ℕ) → bytes ≡ length s - 6 → end ≤ bytes → end ≤ 4200 → (end < 4200 → end ≡ bytes) → Along s start 0 7 600 end 0 start 0
-rows-begin s end bytes b e f g = run-begins s start 0 7 600 end 0 bytes 4200 b refl e f g (omega arith) refl
+rows-begin s end bytes b e f g = run-begins s start 0 7 600 end 0 bytes (omega arith) (omega arith) b e f g (omega arith) refl
 
--- ---- the rows, and the legs
-module _ (s : List ℕ) (end : ℕ) (st : State) (at : ℕ) where
-  module _ (a : Along s start 0 7 600 end (st .rows) st at) where
-    module _ (r : Bool) (e : r ≡ cond (ltb at end) (eqb (getD s at 0) 5) false) (t : r ≡ true) where
-      pub row-here : getD s at 0 ≡ 5
-      row-here = one-stands s start 0 st at 5 end r e t .1
+module _ (s : List ℕ) (end : ℕ) (st : State) (at : ℕ) (a : Along s start 0 7 600 end (st .rows) st at) where
+  pub row-minute : (r : Bool) → r ≡ cond (ltb at end) (eqb (getD s at 0) 5) false → r ≡ true → at + 1 + 2 ≤ length s
+  row-minute r e t = omega (arith, run-fits s start 0 st at 7 600 end (st .rows) a 5 r e t)
 
-      pub row-fits : at + 7 ≤ length s
-      row-fits = omega (arith, one-stands s start 0 st at 5 end r e t, a .inside)
+  pub row-run : (n m : ℕ) → Passes s st at n (record { phase = 0; rows = st .rows + 1; next = num two s (at + 1) + 1; legs = st .legs }) (at + 7) → n ≡ 0 → m ≡ num two s (at + 1)
+      → Along s start 0 7 600 end (st .rows + 1) (record { phase = st .phase; rows = st .rows + 1; next = m + 1; legs = st .legs }) (at + 7)
+  row-run n m h z e = rw (a .phase, e) (run-next s start 0 st at 7 600 end (st .rows) a n _ h z refl)
 
-      pub row-few : st .rows < 600
-      row-few = omega (arith, one-stands s start 0 st at 5 end r e t, a .place, a .few)
+  pub rows-over : (r : Bool) (n : ℕ) → r ≡ cond (ltb at end) (eqb (getD s at 0) 5) false → r ≡ false
+      → n ≡ cond (ltb at (length s)) (cond (eqb (getD s at 0) 5) (cond (ltb (st .rows) 600) 2 5) 0) 0 → Ran s start 0 5 (record { number = n; at = at; st = st })
+  unfolding roomOf bodyOf fieldsOf table
+  rows-over r n e f g = run-over s start 0 st at 7 600 end (st .rows) a 5 5 n refl (row-comes s st at (a .phase)) refl r e f g (omega arith) (omega arith)
 
-      pub row-counts : Fits w32 (st .rows + 1)
-      row-counts = omega (arith, row-few)
+-- ---- the legs
+pub legs-begin : (s : List ℕ) (first : State) (from end bytes places : ℕ) → bytes ≡ length s - 8 → places ≡ from + 576 → end ≤ bytes → end ≤ places → (end < places → end ≡ bytes)
+    → from ≤ length s → first .legs ≡ 0 → Along s first from 9 64 end (first .legs) first from
+legs-begin s first from end bytes places b l e f g h z =
+    run-begins s first from 9 64 end (first .legs) bytes (omega arith) (omega arith) b e (rw l at f) (λ i. g (rw l i)) h z
 
-      pub row-minute : at + 1 + 2 ≤ length s
-      row-minute = omega (arith, row-fits)
+module _ (s : List ℕ) (first : State) (from end : ℕ) (st : State) (at : ℕ) (p : first .phase ≡ 2) (a : Along s first from 9 64 end (st .legs) st at) where
+  pub leg-phase : st .phase ≡ 2
+  leg-phase = a .phase ∙ p
 
-      pub row-less : length s - (at + 7) < length s - at
-      row-less = omega (arith, row-fits)
+  pub leg-run : (n : ℕ) → Passes s st at n (record { phase = 2; rows = st .rows; next = st .next; legs = st .legs + 1 }) (at + 9) → n ≡ 0
+      → Along s first from 9 64 end (st .legs + 1) (record { phase = st .phase; rows = st .rows; next = st .next; legs = st .legs + 1 }) (at + 9)
+  leg-run n h z = rw leg-phase (run-next s first from st at 9 64 end (st .legs) a n _ h z (sym p))
 
-    pub row-run : (n m : ℕ) → Passes s st at n (record { phase = 0; rows = st .rows + 1; next = num two s (at + 1) + 1; legs = st .legs }) (at + 7) → n ≡ 0 → m ≡ num two s (at + 1)
-        → Along s start 0 7 600 end (st .rows + 1) (record { phase = st .phase; rows = st .rows + 1; next = m + 1; legs = st .legs }) (at + 7)
-    row-run n m h z e = rw (a .phase, e) (run-next s start 0 st at 7 600 end (st .rows) a n _ h z refl)
-
-    pub rows-over : (r : Bool) (n : ℕ) → r ≡ cond (ltb at end) (eqb (getD s at 0) 5) false → r ≡ false
-        → n ≡ cond (ltb at (length s)) (cond (eqb (getD s at 0) 5) (cond (ltb (st .rows) 600) 2 5) 0) 0 → Ran s start 0 5 (record { number = n; at = at; st = st })
-    unfolding roomOf bodyOf fieldsOf table
-    rows-over r n e f g =
-        over s start 0 st at (a .phase) (a .within) (a .same) 5 (st .rows) 600 5 n (omega arith) (omega arith) (row-comes s st at (a .phase)) refl short g
-      where
-        short : getD s at 0 ≡ 5 → st .rows < 600 → length s - at ≤ 6
-        short i l = let h = none-stands s start 0 st at 5 end r e f i in omega (arith, a .place, a .last (omega (arith, a .place)))
-
-  module _ (first : State) (from : ℕ) (p : first .phase ≡ 2) (a : Along s first from 9 64 end (st .legs) st at) where
-    module _ (r : Bool) (e : r ≡ cond (ltb at end) (eqb (getD s at 0) 3) false) (t : r ≡ true) where
-      pub leg-here : getD s at 0 ≡ 3
-      leg-here = one-stands s first from st at 3 end r e t .1
-
-      pub leg-phase : st .phase ≡ 2
-      leg-phase = a .phase ∙ p
-
-      pub leg-fits : at + 9 ≤ length s
-      leg-fits = omega (arith, one-stands s first from st at 3 end r e t, a .inside)
-
-      pub leg-few : st .legs < 64
-      leg-few = omega (arith, one-stands s first from st at 3 end r e t, a .place, a .few)
-
-      pub leg-counts : Fits w32 (st .legs + 1)
-      leg-counts = omega (arith, leg-few)
-
-      pub leg-less : length s - (at + 9) < length s - at
-      leg-less = omega (arith, leg-fits)
-
-    pub leg-run : (n : ℕ) → Passes s st at n (record { phase = 2; rows = st .rows; next = st .next; legs = st .legs + 1 }) (at + 9) → n ≡ 0
-        → Along s first from 9 64 end (st .legs + 1) (record { phase = st .phase; rows = st .rows; next = st .next; legs = st .legs + 1 }) (at + 9)
-    leg-run n h z = let e : st .phase ≡ 2 = a .phase ∙ p in rw e (run-next s first from st at 9 64 end (st .legs) a n _ h z (sym p))
-
-    pub legs-over : (r : Bool) (n : ℕ) → r ≡ cond (ltb at end) (eqb (getD s at 0) 3) false → r ≡ false
-        → n ≡ cond (ltb at (length s)) (cond (eqb (getD s at 0) 3) (cond (ltb (st .legs) 64) 2 6) 0) 0 → Ran s first from 3 (record { number = n; at = at; st = st })
-    unfolding roomOf bodyOf fieldsOf table
-    legs-over r n e f g =
-        over s first from st at (a .phase) (a .within) (a .same) 3 (st .legs) 64 6 n (omega arith) (omega arith) (leg-comes s st at (a .phase ∙ p)) refl short g
-      where
-        short : getD s at 0 ≡ 3 → st .legs < 64 → length s - at ≤ 8
-        short i l = let h = none-stands s first from st at 3 end r e f i in omega (arith, a .place, a .last (omega (arith, a .place)))
+  pub legs-over : (r : Bool) (n : ℕ) → r ≡ cond (ltb at end) (eqb (getD s at 0) 3) false → r ≡ false
+      → n ≡ cond (ltb at (length s)) (cond (eqb (getD s at 0) 3) (cond (ltb (st .legs) 64) 2 6) 0) 0 → Ran s first from 3 (record { number = n; at = at; st = st })
+  unfolding roomOf bodyOf fieldsOf table
+  legs-over r n e f g = run-over s first from st at 9 64 end (st .legs) a 3 6 n refl (leg-comes s st at leg-phase) refl r e f g (omega arith) (omega arith)
 
 -- ---- behind the close nothing may stand
 module _ (s : List ℕ) (st : State) (at n : ℕ) (u : State) (b : ℕ) (h : Passes s st at n u b) (z : n ≡ 0) (p : u .phase ≡ 3) where

@@ -3,7 +3,7 @@ use mathlib.Core.Path.{_≡_}
 use Prim.Native.Nat.{_-_}
 use borrow.Author.Needs.{needs}
 use lib.ListN.{length}
-use Rattle.tape.proofs.Parts.{Along, run-begins, leg-here, leg-fits, leg-phase, leg-few, leg-counts, leg-less, run-stopped, leg-run, legs-over}
+use Rattle.tape.proofs.Parts.{Along, run-here, run-fits, run-few, run-counts, run-less, run-stopped, legs-begin, leg-phase, leg-run, legs-over}
 use Rattle.tape.proofs.order.legs.Statement.{statement}
 use Rattle.tape.proofs.order.legs.Tie as tie
 
@@ -14,19 +14,19 @@ abbrev μ-loop : tie.MeasureT-loop
 μ-loop tape from end at₀ st₀ at st = length tape - at
 
 loop-holds : tie.Need-loop-holds Inv-loop μ-loop
-loop-holds c = (search run-begins, search needs)
+loop-holds c = (search legs-begin, search needs)
 
 leg-requires : tie.Need-leg-requires Inv-loop μ-loop
-leg-requires c κs = search (leg-here, leg-fits, leg-phase, leg-few)
+leg-requires c κs = search (run-here, run-fits, leg-phase, run-few)
 
 returns : tie.Need-returns Inv-loop μ-loop
 returns c = search run-stopped
 
 add-st : tie.Need-add-st Inv-loop μ-loop
-add-st c = search leg-counts
+add-st c = search run-counts
 
 loop-less : tie.Need-loop-less Inv-loop μ-loop
-loop-less c = search leg-less
+loop-less c = search run-less
 
 loop-again : tie.Need-loop-again Inv-loop μ-loop
 loop-again c = search leg-run

@@ -4,7 +4,7 @@ use Prim.Native.Nat.{_-_}
 use borrow.Author.Needs.{needs}
 use lib.ListN.{length}
 use Rattle.tape.specs.Tape.{start}
-use Rattle.tape.proofs.Parts.{Along, rows-begin, row-here, row-fits, row-few, row-counts, row-minute, row-less, run-stopped, row-run, rows-over}
+use Rattle.tape.proofs.Parts.{Along, run-here, run-fits, run-few, run-counts, run-less, run-stopped, rows-begin, row-minute, row-run, rows-over}
 use Rattle.tape.proofs.order.rows.Statement.{statement}
 use Rattle.tape.proofs.order.rows.Tie as tie
 
@@ -18,19 +18,19 @@ loop-holds : tie.Need-loop-holds Inv-loop μ-loop
 loop-holds c = (search rows-begin, search needs)
 
 row-requires : tie.Need-row-requires Inv-loop μ-loop
-row-requires c κs = search (needs, row-here, row-fits, row-few)
+row-requires c κs = search (needs, run-here, run-fits, run-few)
 
 returns : tie.Need-returns Inv-loop μ-loop
 returns c = (search run-stopped, search needs)
 
 add-st : tie.Need-add-st Inv-loop μ-loop
-add-st c = search row-counts
+add-st c = search run-counts
 
 two-at-requires : tie.Need-two-at-requires Inv-loop μ-loop
 two-at-requires c κs = search row-minute
 
 loop-less : tie.Need-loop-less Inv-loop μ-loop
-loop-less c = search row-less
+loop-less c = search run-less
 
 loop-again : tie.Need-loop-again Inv-loop μ-loop
 loop-again c = (search row-run, search needs)
