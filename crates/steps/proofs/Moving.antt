@@ -8,14 +8,14 @@ use native.Mathlib.Decide.{decLt}
 use native.Mathlib.Nat.{mod-lt}
 use native.Mathlib.Omega.{arith}
 use borrow.Author.Tests.{le-leb, lt-leb, lt-ltb, le-ltb}
-use lib.Dec.{leb, ltb}
+use lib.Dec.{leb, ltb, eqb}
 use lib.Signed.{ltZ}
 use lib.IntN.{ℤ, pos, negsuc, negℤ, natAbs, _*ℤ_}
 use Rattle.whole.specs.Nearest.{nearest, halfUp}
 use Rattle.whole.specs.declared.Whole.{Whole}
 use Rattle.whole.proofs.Ring.{ring, exps}
 use Rattle.whole.proofs.Rounding.{nearest-neg}
-use Rattle.answer.specs.Told.{told, given, inRange}
+use Rattle.answer.specs.Told.{Told, told, given, inRange}
 use Rattle.answer.specs.declared.Amount.{Amount}
 use Rattle.answer.specs.declared.Amount.the-variants as amount
 use Rattle.answer.proofs.Telling.{tells, refuses, value-given, both, not-second}
@@ -27,7 +27,7 @@ use Rattle.sines.specs.declared.Turned.{Turned}
 use Rattle.sines.specs.declared.Turned.the-variants as turn
 use Rattle.sines.proofs.Own.{Entries, sine-size, lent-entries, no-entries}
 use Rattle.sines.proofs.Turns.{no-circle, in-circle, sine-most, cosine-most, sine-signed, cosine-signed}
-use Rattle.steps.specs.Course.{Axis, north, east, move, sineAlong, course, courseStep, moveTold, toldOf}
+use Rattle.steps.specs.Course.{Axis, north, east, move, sineAlong, course, courseStep, toldOf}
 use Rattle.steps.specs.declared.course.Moves.{Moves}
 use Rattle.steps.specs.declared.course.Moves.the-variants.{Are, OutOfRange}
 use Rattle.steps.proofs.Laws.{product-most}
@@ -94,6 +94,10 @@ signed : (z : ℤ) → turned (ltZ z (pos 0)) (pos (natAbs z)) ≡ z
 unfolding turned
 signed (pos n) = rw (le-ltb n 0 (omega arith))
 signed (negsuc n) = refl
+
+-- where the sine was refused, so is the move
+abbrev moveTold : ℕ → Told → Told
+moveTold distance sine = inRange (leb distance 20100000 && eqb (sine .number) 0) (move distance (sine .value))
 
 module _ (distance : ℕ) (s : Amount) where
   pub no-sine : s ≡ amount.OutOfRange → told amount.OutOfRange ≡ moveTold distance (told s)

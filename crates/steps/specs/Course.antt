@@ -1,7 +1,7 @@
 -- Paper 01, "Azimuths and legs": latitude and departure, how far a leg moves north and east, in hundredths of a foot.
 use mathlib.Core.Bool.{_&&_}
 use Prim.Native.Nat.{ℕ}
-use lib.Dec.{leb, ltb, eqb}
+use lib.Dec.{leb, ltb}
 use lib.IntN.{ℤ, pos, negℤ, _*ℤ_}
 use Rattle.whole.specs.Nearest.{nearest}
 use Rattle.answer.specs.Told.{Told, given, refused, inRange}
@@ -33,10 +33,6 @@ ofLeg distance azimuth z = inRange (leb distance 20100000 && ltb azimuth circle)
 
 abbrev pub courseStep : (ℕ → ℤ) → Axis → ℕ → ℕ → Told
 courseStep e axis distance azimuth = ofLeg distance azimuth (course e axis distance azimuth)
-
--- ---- one move by a sine that was told: where that was refused, so is the move
-abbrev pub moveTold : ℕ → Told → Told
-moveTold distance sine = inRange (leb distance 20100000 && eqb (sine .number) 0) (move distance (sine .value))
 
 -- ---- both moves of a leg at once: what is told along each axis
 unfoldable pub toldOf : Axis → Moves → Told

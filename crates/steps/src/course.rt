@@ -3,13 +3,15 @@ use answer::Amount;
 use sines::Turned;
 use whole::Whole;
 ghost use mathlib.Core.Path.{_≡_};
+ghost use mathlib.Core.Bool.{_&&_};
 ghost use Prim.Native.Nat.{_≤_};
+ghost use lib.Dec.{eqb, leb};
 ghost use lib.IntN.{pos, natAbs};
-ghost use Rattle.answer.specs.Told.{told};
+ghost use Rattle.answer.specs.Told.{told, inRange};
 ghost use Rattle.minutes.specs.Quadrant.{turned};
 ghost use Rattle.minutes.specs.Entry.{entry};
 ghost use Rattle.sines.specs.Sine.{entryIn};
-ghost use Rattle.steps.specs.Course.{north as Course·north, east as Course·east, move as Course·move, courseStep, moveTold, toldOf};
+ghost use Rattle.steps.specs.Course.{north as Course·north, east as Course·east, move as Course·move, courseStep, toldOf};
 
 // Both moves of a leg, or its input was out of the range stated with the step.
 pub enum Moves {
@@ -71,7 +73,7 @@ pub fn moves_in(table: &[u32], distance: u64, azimuth: u32) -> Moves
 // One of them, by the one sine that counts.
 fn moved(distance: u64, sine: Amount) -> Amount
     requires { ⌜ natAbs (told sine .value) ≤ 1000000000 ⌝ }
-    ensures { λ r. ⌜ told r ≡ moveTold distance (told sine) ⌝ }
+    ensures { λ r. ⌜ told r ≡ inRange (leb distance 20100000 && eqb (told sine .number) 0) (Course·move distance (told sine .value)) ⌝ }
 {
     if 20100000 < distance {
         return Amount::OutOfRange;

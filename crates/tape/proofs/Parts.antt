@@ -196,17 +196,17 @@ module _ (s : List ℕ) (st : State) (at n : ℕ) (u : State) (b : ℕ) (h : Pas
 
 -- ---- what stands before the legs
 module _ (s : List ℕ) (r : Passed) (ran : Ran s start 0 5 r) where
+  stops : (m at : ℕ) (u : State) → (m ≡ 0 → ⊥) → readingOf s ≡ Refused m at → Opened s (record { number = m; at = at; st = u })
+  stops m at u z e = record { same = rw (ne-eqb m 0 z) e; within = λ y. absurd (z y); phase = λ y. absurd (z y); legs = λ y. absurd (z y) }
+
   pub rows-refused : (r .number ≡ 0 → ⊥) → Opened s r
   unfolding readingOf
-  rows-refused z = record { same = ran .same; within = λ y. absurd (z y); phase = λ y. absurd (z y); legs = λ y. absurd (z y) }
+  rows-refused z = stops (r .number) (r .at) (r .st) z (ran .same ∙ rw (ne-eqb (r .number) 0 z))
 
   module _ (read : r .number ≡ 0) (st : State) (is : st ≡ r .st) (n : ℕ) (project : Passes s st (r .at) n (to 1 st) (r .at + 5)) where
     rows-read : readingOf s ≡ onward s st (r .at)
     unfolding readingOf
     rows-read = ran .same ∙ rw (read, is)
-
-    stops : (m at : ℕ) (u : State) → (m ≡ 0 → ⊥) → readingOf s ≡ Refused m at → Opened s (record { number = m; at = at; st = u })
-    stops m at u z e = record { same = rw (ne-eqb m 0 z) e; within = λ y. absurd (z y); phase = λ y. absurd (z y); legs = λ y. absurd (z y) }
 
     pub project-refused : (n ≡ 0 → ⊥) → Opened s (record { number = n; at = r .at; st = st })
     project-refused z = stops n (r .at) st z (rows-read ∙ project .same ∙ rw (ne-eqb n 0 z))

@@ -79,7 +79,7 @@ fn in_phase(phase: u32, st: State) -> State
     }
 }
 
-// ---- what refuses a record: its number, or 0
+// ---- what refuses a record: its number, or 0. The state is handed to each for its promise; the start and a leg do not look at it.
 // A row that there is room for.
 fn row(tape: &[u8], at: usize, st: State) -> u32
     requires { ⌜ (getD (now tape) at 0 ≡ 5) × (at + 7 ≤ length (now tape)) ⌝ }
