@@ -6,7 +6,7 @@ use crate::output::print_amount;
 use crate::output::print_count;
 use crate::output::print_place;
 use desk::Answer;
-use page::Page;
+use desk::Page;
 use whole::Whole;
 
 // What every lent word holds before: no coordinate is so large.
@@ -88,14 +88,14 @@ fn print_traverse(tape: &[u8], words: &mut [i64]) {
 }
 
 fn print_sheet(tape: &[u8], out: &mut [u8]) {
-    print_page(page::sheet(tape, out));
+    print_page(desk::sheet(tape, out));
     print_count(bytes_changed(out) as u64);
     print(b"\n");
 }
 
 fn print_program(tape: &[u8]) {
     let mut out = [0u8; 4096];
-    let k = page::print(tape, &mut out);
+    let k = desk::print(tape, &mut out);
     print(notes::front(&out, k));
 }
 

@@ -3,9 +3,15 @@ pub mod Alone
 pub mod Balancing
 pub mod Carrying
 pub mod Compass
+pub mod Enough
+pub mod Fitting
+pub mod StationLines
 pub mod Looping
+pub mod Paging
 pub mod Pairs
 pub mod Printed
+pub mod PrintedSheet
+pub mod Printing
 pub mod Running
 pub mod Scaling
 pub mod Settling

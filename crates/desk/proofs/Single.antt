@@ -1,4 +1,4 @@
--- Any two outcomes that the promise of `traverse` or `traverse_in` allows coincide, the answer and every lent word. What an answer tells is the whole of it: number 0 is told
+-- Any two outcomes that a promise of this crate allows coincide, the answer and every lent word or byte. What an answer tells is the whole of it: number 0 is told
 -- by an adjusted traverse alone, since an accepted tape has a leg and a refusal tells none.
 use Prim.Native.Nat.{ℕ, _≤_}
 use native.Mathlib.Omega.{arith}
@@ -11,6 +11,8 @@ use lib.ListN.{length}
 use lib.IntN.{ℤ}
 use Rattle.desk.specs.declared.Answer.{Answer}
 use Rattle.desk.specs.declared.Answer.the-variants.{Refused, Adjusted}
+use Rattle.desk.specs.declared.Page.{Page}
+use Rattle.desk.specs.Sheet.{over, Showed, printedIn}
 use Rattle.desk.specs.Answer.{Told, told, second, traversedBy, traversedWordsBy}
 use Rattle.desk.proofs.Accepted.{accepted, accepted-told, accepted-sound}
 
@@ -47,3 +49,13 @@ pub traverse-single : (e : ℕ → ℤ) (tape : List ℕ) (words l m : List ℤ)
     → told x ≡ traversedBy e tape (length words) → l ≡ traversedWordsBy e tape words → told y ≡ traversedBy e tape (length words) → m ≡ traversedWordsBy e tape words
     → (x ≡ y) × (l ≡ m)
 traverse-single e tape words l m x y c f g h = (one-answer e tape (length words) x c ∙ sym (one-answer e tape (length words) y g), f ∙ sym h)
+
+-- `sheet`, and with the entries of a lent table `sheet_in`
+pub sheet-single : (e : ℕ → ℤ) (tape out l m : List ℕ) (x y : Page) → Showed e tape out l x → Showed e tape out m y → (x ≡ y) × (l ≡ m)
+sheet-single e tape out l m x y s t = (s .answer ∙ sym (t .answer), s .left ∙ sym (t .left))
+
+pub print-single : (tape out l m : List ℕ) (x y : ℕ)
+    → x ≡ length (printedIn tape (length out)) → l ≡ over (printedIn tape (length out)) out
+    → y ≡ length (printedIn tape (length out)) → m ≡ over (printedIn tape (length out)) out
+    → (x ≡ y) × (l ≡ m)
+print-single tape out l m x y e f g h = (e ∙ sym g, f ∙ sym h)

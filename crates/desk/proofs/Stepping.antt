@@ -93,7 +93,19 @@ module _ (tape : List ℕ) (r : Checked) (azimuths distances : List ℕ) (f : ch
       settled-words l words g = g ∙ by-checked (λ (x : First). wordsAfterFirst e x words) (checked.Good b) h
 
 -- ---- the whole, by any table of sines
+pub known-is : (tape : List ℕ) (t : Taken) → t ≡ takenOf tape → (c : Control) → t ≡ taken.Reads c → Known tape c
+known-is tape t f c h = let k = took tape c (sym f ∙ h) in record { reads = k .0; is = k .1 }
+
 module _ (e : ℕ → ℤ) (tape : List ℕ) (words : List ℤ) where
+  module _ (wide : 130 ≤ length words) (c : Control) (known : Known tape c) where
+    pub known-told : (r : Answer) → told r ≡ afterFirst e (checkedAngles (fieldsOf tape)) → told r ≡ traversedBy e tape (length words)
+    unfolding traversedBy firstFor firstOf
+    known-told r g = rw (le-ltb (length words) 130 wide, known .reads .reads) g
+
+    pub known-words : (l : List ℤ) → l ≡ wordsAfterFirst e (checkedAngles (fieldsOf tape)) words → l ≡ traversedWordsBy e tape words
+    unfolding traversedWordsBy firstFor firstOf
+    known-words l g = rw (le-ltb (length words) 130 wide, known .reads .reads) g
+
   module _ (few : length words < 130) where
     pub short-told : refused 1 0 ≡ traversedBy e tape (length words)
     unfolding traversedBy firstFor
@@ -114,16 +126,11 @@ module _ (e : ℕ → ℤ) (tape : List ℕ) (words : List ℤ) where
       refused-words = rw (le-ltb (length words) 130 wide, took-not tape n p (sym f ∙ h))
 
     module _ (c : Control) (h : t ≡ taken.Reads c) where
-      pub known-is : Known tape c
-      known-is = let k = took tape c (sym f ∙ h) in record { reads = k .0; is = k .1 }
-
       pub good-told : (r : Answer) → told r ≡ afterFirst e (checkedAngles (fieldsOf tape)) → told r ≡ traversedBy e tape (length words)
-      unfolding traversedBy firstFor firstOf
-      good-told r g = rw (le-ltb (length words) 130 wide, known-is .reads .reads) g
+      good-told = known-told wide c (known-is tape t f c h)
 
       pub good-words : (l : List ℤ) → l ≡ wordsAfterFirst e (checkedAngles (fieldsOf tape)) words → l ≡ traversedWordsBy e tape words
-      unfolding traversedWordsBy firstFor firstOf
-      good-words l g = rw (le-ltb (length words) 130 wide, known-is .reads .reads) g
+      good-words = known-words wide c (known-is tape t f c h)
 
 -- ---- with no table lent, every entry is the desk's own
 pub own-told : (tape : List ℕ) (room : ℕ) (r : Answer) → told r ≡ traversedBy (entryIn []) tape room → told r ≡ traversedBy entry tape room

@@ -16,12 +16,15 @@ use Rattle.steps.specs.Distance.{grid, seaLevel, combine}
 use Rattle.steps.specs.Share.{share}
 use Rattle.whole.specs.Filled.{filled}
 use Rattle.desk.specs.Angles.{angleAt, Balanced}
-use Rattle.desk.specs.Answer.{First, stopped, good, northClosure, eastClosure, distanceRun}
+use Rattle.desk.specs.Answer.{told, First, stopped, good, northClosure, eastClosure, distanceRun}
 use Rattle.desk.specs.Line.{run, preliminary}
+use Rattle.desk.specs.Sheet.{textOf}
 use Rattle.desk.specs.Traverse.{along, longOf, azimuthOf, line, at, same}
 use Rattle.tape.specs.Fields.{Fields, fieldsOf, DoesRead, controlOf}
 use Rattle.tape.specs.declared.Point.{Point}
 use Rattle.whole.specs.declared.Whole.{Whole}
+use Rattle.desk.specs.declared.Answer.{Answer}
+use Rattle.desk.specs.declared.Answer.the-variants as answer
 use Rattle.desk.specs.declared.Frame.{Frame}
 use Rattle.desk.specs.declared.Checked.{Checked}
 use Rattle.desk.specs.declared.Checked.the-variants as checked
@@ -214,3 +217,9 @@ pub record Figured (b : Frame) (c : Sums) (words : List ℤ) (r : Figures) : Typ
   pub precise : r .precision ≡ precision (c .north .v) (c .east .v) (c .run)
   pub looped : r .looped ≡ same (b .from) (b .to)
   pub area : r .area .v ≡ cond (same (b .from) (b .to)) (doubled (takenFrom words (b .legs))) (pos 0)
+
+-- an answer that can be shown in the lent bytes: no refusal has the number 0, an adjusted traverse has few legs, and its text has room
+pub record Shows (x : Answer) (words : List ℤ) (out : List ℕ) : Type 0 where
+  pub some : (n p : ℕ) → x ≡ answer.Refused n p → n ≡ 0 → ⊥
+  pub few : told x .number ≡ 0 → told x .legs ≤ 64
+  pub room : told x .number ≡ 0 → length (textOf (told x) words) ≤ length out

@@ -1,5 +1,6 @@
 pub mod Angles
 pub mod Answer
 pub mod Line
+pub mod Sheet
 pub mod Traverse
 pub mod Inside

@@ -1,4 +1,4 @@
-// The desk: a tape in, an adjusted traverse out, in two steps. The first checks and balances the angles, the second closes and adjusts.
+// The desk: a tape in, an adjusted traverse or its sheet out, in two steps. The first checks and balances the angles, the second closes and adjusts.
 use tape::Control;
 use tape::Point;
 use tape::Taken;
@@ -8,7 +8,9 @@ ghost use Prim.Native.Nat.{_≤_};
 ghost use lib.ListN.{length};
 ghost use Rattle.tape.specs.Fields.{fieldsOf};
 ghost use Rattle.desk.specs.Answer.{told, checkedAngles, afterFirst, wordsAfterFirst, traversed, traversedWords, traversedBy, traversedWordsBy};
-ghost use Rattle.desk.specs.Inside.{Known};
+ghost use Rattle.desk.specs.Inside.{Known, Shows};
+ghost use Rattle.desk.specs.Sheet.{shown, shownBytes, over, Showed, printedIn};
+ghost use Rattle.minutes.specs.Entry.{entry};
 ghost use Rattle.sines.specs.Sine.{entryIn};
 
 // A traverse whose angles are balanced, but for its legs: the misclosure W, the combined factor, the two fixed points, and the place of the close. The
@@ -53,11 +55,18 @@ pub enum Answer {
     Adjusted(Figures),
 }
 
+// What the sheet step answers: a refusal, or the length of the text.
+pub enum Page {
+    Refused { number: u32, place: usize },
+    Text(usize),
+}
+
 mod angles;
 mod area;
 mod checking;
 mod factor;
 mod legs;
+mod lines;
 mod places;
 mod second;
 
@@ -103,4 +112,78 @@ pub fn traverse(tape: &[u8], words: &mut [i64]) -> Answer
 {
     let none = [0u32; 0];
     traverse_in(&none, tape, words)
+}
+
+// An answer of the traverse, shown: its refusal, or its text in the lent bytes.
+fn show(answer: Answer, words: &[i64; 130], out: &mut [u8]) -> Page
+    requires { ⌜ Shows answer (now words) (now out) ⌝ }
+    ensures page { λ r. ⌜ r ≡ shown (told answer) (now (words .entry)) ⌝ }
+    ensures bytes { λ r. ⌜ now (out .exit) ≡ shownBytes (told answer) (now (words .entry)) (now (out .entry)) ⌝ }
+{
+    match answer {
+        Answer::Refused { number, place } => Page::Refused { number, place },
+        Answer::Adjusted(figures) => Page::Text(lines::put_all(out, figures, words)),
+    }
+}
+
+// The sheet of a tape that reads. Its words are its own, and are laid out only here, so that a tape that does not read pays for none.
+fn compose(table: &[u32], tape: &[u8], c: Control, out: &mut [u8]) -> Page
+    requires { ⌜ Known (now tape) c ⌝ }
+    requires { ⌜ 4096 ≤ length (now out) ⌝ }
+    ensures { λ r. ⌜ Showed (entryIn (now (table .entry))) (now (tape .entry)) (now (out .entry)) (now (out .exit)) r ⌝ }
+{
+    let mut words = [0i64; 130];
+    let answer = work(table, tape, c, &mut words);
+    show(answer, &words, out)
+}
+
+// The sheet step by the sines of a lent table, whatever it holds: the text of an accepted tape, from the first lent byte. Refusal 1 is tried before all,
+// and no byte is written on a refusal.
+pub fn sheet_in(table: &[u32], tape: &[u8], out: &mut [u8]) -> Page
+    ensures { λ r. ⌜ Showed (entryIn (now (table .entry))) (now (tape .entry)) (now (out .entry)) (now (out .exit)) r ⌝ }
+{
+    if out.len() < 4096 {
+        return Page::Refused {
+            number: 1,
+            place: 0,
+        };
+    }
+    let taken = tape::take(tape);
+    match taken {
+        Taken::Refused { number, place } => Page::Refused { number, place },
+        Taken::Reads(c) => compose(table, tape, c, out),
+    }
+}
+
+// The paper's sheet: no table is lent, so every entry is the desk's own. It does not go by `sheet_in`: with two callers `compose` is compiled for itself, and
+// both ways of a refused tape are short (docs/SPEED.md).
+pub fn sheet(tape: &[u8], out: &mut [u8]) -> Page
+    ensures { λ r. ⌜ Showed entry (now (tape .entry)) (now (out .entry)) (now (out .exit)) r ⌝ }
+{
+    let none = [0u32; 0];
+    if out.len() < 4096 {
+        return Page::Refused {
+            number: 1,
+            place: 0,
+        };
+    }
+    let taken = tape::take(tape);
+    match taken {
+        Taken::Refused { number, place } => Page::Refused { number, place },
+        Taken::Reads(c) => compose(&none, tape, c, out),
+    }
+}
+
+// What the program prints: the sheet, or the line of a refusal; nothing in bytes that have no room for a sheet.
+pub fn print(tape: &[u8], out: &mut [u8]) -> usize
+    ensures length { λ r. ⌜ r ≡ length (printedIn (now (tape .entry)) (length (now (out .entry)))) ⌝ }
+    ensures bytes { λ r. ⌜ now (out .exit) ≡ over (printedIn (now (tape .entry)) (length (now (out .entry)))) (now (out .entry)) ⌝ }
+{
+    if out.len() < 4096 {
+        return 0;
+    }
+    match sheet(tape, out) {
+        Page::Text(n) => n,
+        Page::Refused { number, .. } => lines::put_count(out, 0, b"REFUSED ", number as u64),
+    }
 }

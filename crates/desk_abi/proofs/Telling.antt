@@ -19,8 +19,8 @@ use Rattle.tape.specs.Record.{goodRecord, bytesOfRecord}
 use Rattle.tape.specs.Tape.{Told as Tape·Told}
 use Rattle.tape.specs.Write.{Wrote, told as Write·told}
 use Rattle.desk.specs.Answer.{Told as Desk·Told}
-use Rattle.page.specs.declared.Page.{Page}
-use Rattle.page.specs.Sheet.{Showed, told as Page·told}
+use Rattle.desk.specs.declared.Page.{Page}
+use Rattle.desk.specs.Sheet.{Showed, told as Page·told}
 use Rattle.desk_abi.specs.Face.{TellsAmount, TellsCount, TellsVerdict, TellsWritten, Writes, TellsReading, TellsTraverse, TellsPage, Shows}
 
 -- ---- the cases

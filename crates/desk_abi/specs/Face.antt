@@ -12,7 +12,7 @@ use Rattle.tape.specs.Record.{goodRecord, bytesOfRecord}
 use Rattle.tape.specs.Tape.{Told as Tape·Told}
 use Rattle.tape.specs.Write.{Told as Write·Told, told, answerOf, leftOf}
 use Rattle.desk.specs.Answer.{Told as Desk·Told}
-use Rattle.page.specs.Sheet.{Told as Page·Told, told as Page·told, paged, pagedBytes}
+use Rattle.desk.specs.Sheet.{Told as Page·Told, told as Page·told, paged, pagedBytes}
 
 -- ---- a step: v is the value that is stored; its place is always 0
 pub record TellsAmount (t : Told) (v : ℤ) (n : ℕ) : Type 0 where

@@ -9,12 +9,12 @@ ghost use Rattle.tape.specs.Tape.{told as Tape·told};
 ghost use Rattle.desk.specs.Answer.{traversed, traversedWords, traversedBy, traversedWordsBy};
 ghost use Rattle.desk_abi.specs.Face.{TellsReading, TellsTraverse, Shows};
 
-// The reading, by refusals 2 to 7.
+// The reading, by refusals 2 to 7: by `take`, as the traverse and the sheet read, so that the reading is compiled once.
 #[no_mangle]
 pub extern "C" fn vas_read(tape: &[u8], place: &mut usize) -> u32
     ensures { λ r. ⌜ TellsReading (Tape·told (readingOf (now (tape .entry)))) (now (place .exit)) r ⌝ }
 {
-    tell::reading(tape::read(tape), place)
+    tell::reading(tape::take(tape), place)
 }
 
 // The traverse, its stations in the caller's words.
@@ -56,7 +56,7 @@ pub extern "C" fn vas_sheet(
 ) -> u32
     ensures { λ r. ⌜ Shows entry (now (tape .entry)) (now (out .entry)) (now (out .exit)) (now (place .exit)) (now (length .exit)) r ⌝ }
 {
-    tell::page(page::sheet(tape, out), place, length)
+    tell::page(desk::sheet(tape, out), place, length)
 }
 
 // The same by the sines of a lent table, whatever it holds.
@@ -70,5 +70,5 @@ pub extern "C" fn vas_sheet_in(
 ) -> u32
     ensures { λ r. ⌜ Shows (entryIn (now (table .entry))) (now (tape .entry)) (now (out .entry)) (now (out .exit)) (now (place .exit)) (now (length .exit)) r ⌝ }
 {
-    tell::page(page::sheet_in(table, tape, out), place, length)
+    tell::page(desk::sheet_in(table, tape, out), place, length)
 }

@@ -3,18 +3,18 @@ use answer::Amount;
 use answer::Count;
 use answer::Verdict;
 use desk::Answer;
-use page::Page;
-use tape::Reading;
+use desk::Page;
+use tape::Taken;
 use tape::Written;
 use whole::Whole;
 ghost use mathlib.Core.Path.{_≡_};
 ghost use Prim.Native.Nat.{_^_, _<_};
 ghost use lib.ListN.{set};
 ghost use Rattle.answer.specs.Told.{told, toldCount, toldVerdict, passes};
-ghost use Rattle.tape.specs.Tape.{told as Tape·told};
+ghost use Rattle.tape.specs.Fields.{toldTaken};
 ghost use Rattle.tape.specs.Write.{told as Write·told};
 ghost use Rattle.desk.specs.Answer.{told as Answer·told};
-ghost use Rattle.page.specs.Sheet.{told as Page·told};
+ghost use Rattle.desk.specs.Sheet.{told as Page·told};
 ghost use Rattle.desk_abi.specs.Face.{TellsAmount, TellsCount, TellsVerdict, TellsWritten, TellsReading, TellsTraverse, figuresOf, values, TellsPage};
 
 fn store(value: &mut i64, z: Whole)
@@ -90,15 +90,15 @@ pub fn written(a: Written, place: &mut usize, next: &mut usize) -> u32
     }
 }
 
-pub fn reading(a: Reading, place: &mut usize) -> u32
-    ensures { λ r. ⌜ TellsReading (Tape·told a) (now (place .exit)) r ⌝ }
+pub fn reading(a: Taken, place: &mut usize) -> u32
+    ensures { λ r. ⌜ TellsReading (toldTaken a) (now (place .exit)) r ⌝ }
 {
     match a {
-        Reading::Reads(_st) => {
+        Taken::Reads(_c) => {
             *place = 0;
             0
         }
-        Reading::Refused { number, place: p } => {
+        Taken::Refused { number, place: p } => {
             *place = p;
             number
         }

@@ -1,5 +1,5 @@
 -- `main` is safe: as many bytes are written as `print` answered, and those stand at the front of its buffer.
-use Rattle.page.proofs.Printing.{front, front-length}
+use Rattle.desk.proofs.Printing.{front, front-length}
 use borrow.Author.Needs.{needs}
 use Rattle.sheet.proofs.main.Statement.{statement}
 use Rattle.sheet.proofs.main.Tie as tie

@@ -1,4 +1,4 @@
--- `vas_read` tells what `read` answers.
+-- `vas_read` tells what `take` answers.
 use borrow.Author.Needs.{needs}
 use Rattle.desk_abi.proofs.Telling.{reading-as}
 use Rattle.desk_abi.proofs.tapes.vas_read.Statement.{statement}
