@@ -9,7 +9,7 @@ use lib.ListN.{length}
 use lib.IntN.{ℤ}
 use Rattle.desk.specs.declared.Answer.{Answer}
 use Rattle.desk.specs.declared.Figures.{Figures}
-use Rattle.desk.specs.declared.Answer.the-variants as desk
+use Rattle.desk.specs.declared.Answer.the-variants as traverse
 use Rattle.minutes.specs.Entry.{entry}
 use Rattle.sines.specs.Sine.{entryIn}
 use Rattle.sines.proofs.Own.{Entries, no-entries}
@@ -32,7 +32,7 @@ use Rattle.desk.proofs.Fitting.{sheet-fits}
 
 -- ---- an answer that can be shown
 module _ (x : Answer) (words : List ℤ) (out : List ℕ) (h : Shows x words out) where
-  module _ (n p : ℕ) (e : x ≡ desk.Refused n p) where
+  module _ (n p : ℕ) (e : x ≡ traverse.Refused n p) where
     pub refused-page : Refused n p ≡ shown (toldTraverse x) words
     unfolding shown
     refused-page = rw (e, ne-eqb n 0 (h .some n p e))
@@ -41,17 +41,17 @@ module _ (x : Answer) (words : List ℤ) (out : List ℕ) (h : Shows x words out
     unfolding shownBytes
     refused-bytes = rw (e, ne-eqb n 0 (h .some n p e))
 
-  module _ (g : Figures) (f : x ≡ desk.Adjusted g) where
+  module _ (g : Figures) (f : x ≡ traverse.Adjusted g) where
     pub legs-few : g .legs ≤ 64
     legs-few = rw f at (h .few (rw f))
 
-    fits : length (textOf (toldTraverse (desk.Adjusted g)) words) ≤ length out
+    fits : length (textOf (toldTraverse (traverse.Adjusted g)) words) ≤ length out
     fits = rw f at (h .room (rw f))
 
-    pub text-room : Room out 0 (textOf (toldTraverse (desk.Adjusted g)) words)
+    pub text-room : Room out 0 (textOf (toldTraverse (traverse.Adjusted g)) words)
     text-room = omega (arith, fits)
 
-    module _ (m : List ℕ) (k : ℕ) (y : Put out 0 (textOf (toldTraverse (desk.Adjusted g)) words) m k) where
+    module _ (m : List ℕ) (k : ℕ) (y : Put out 0 (textOf (toldTraverse (traverse.Adjusted g)) words) m k) where
       pub text-page : Text k ≡ shown (toldTraverse x) words
       unfolding shown
       text-page = rw f (ap Text (over-next out _ m k y))
