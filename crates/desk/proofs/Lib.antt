@@ -5,7 +5,6 @@ pub mod Carrying
 pub mod Compass
 pub mod Enough
 pub mod Fitting
-pub mod StationLines
 pub mod Looping
 pub mod Paging
 pub mod Pairs
@@ -16,6 +15,7 @@ pub mod Running
 pub mod Scaling
 pub mod Settling
 pub mod Single
+pub mod StationLines
 pub mod Stations
 pub mod Stepping
 pub mod Words

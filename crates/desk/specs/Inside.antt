@@ -1,5 +1,5 @@
--- What the private functions promise one another: the ranges of a balanced traverse, and what the sums hold at a station. The public promises do not
--- mention any of it.
+-- What the private functions promise one another: the ranges of a balanced traverse, what the sums hold at a station, and when an answer can be shown. The
+-- public promises do not mention any of it.
 use Prim.Native.Nat.{ℕ, zero, suc, _+_, _*_, _^_, _≤_, _<_}
 use mathlib.Core.Path.{_≡_}
 use mathlib.Core.Bool.{true, cond, _&&_}

@@ -8,28 +8,21 @@ use Rattle.desk.proofs.sheet_in.Tie as tie
 returns : tie.Need-returns
 returns c = search no-room
 
-take-requires : tie.Need-take-requires
-take-requires c κs = search needs
-
-enum-known-taken : tie.Need-enum-known-taken
-enum-known-taken c = search needs
-
-enum-known-taken-2 : tie.Need-enum-known-taken-2
-enum-known-taken-2 c = search needs
-
 compose-requires : tie.Need-compose-requires
 compose-requires c κs = (search known-is, search needs)
 
 returns-2 : tie.Need-returns-2
 returns-2 c = search refused-showed
 
-same-length : tie.Need-same-length
-same-length c = search needs
-
-returns-3 : tie.Need-returns-3
-returns-3 c = search needs
-
 pub sheet-in-spec : {M : Type 1} → statement M
 sheet-in-spec =
     tie.close
-    (tie.spec returns take-requires enum-known-taken enum-known-taken-2 compose-requires returns-2 same-length returns-3)
+    (tie.spec
+    returns
+    (λ c κs. search needs)
+    (λ c. search needs)
+    (λ c. search needs)
+    compose-requires
+    returns-2
+    (λ c. search needs)
+    (λ c. search needs))
