@@ -1,22 +1,23 @@
--- The words of the stations, taken from the first: two words a turn make the list of them, and where they are in range the area step gives its value.
-use Prim.Native.Nat.{ℕ, zero, suc, _+_, _*_, _%_, _^_, _≤_, _<_}
+-- The words of the stations, taken from the first: the offsets of a station are those of the list of them, and so the sum that stops before the last station
+-- is the doubled area of that list.
+use Prim.Native.Nat.{ℕ, zero, suc, _+_, _*_, _^_, _≤_, _<_}
 use native.Mathlib.Omega.{arith}
-use native.Mathlib.Numerals.{add-one}
-use mathlib.Core.Path.{_≡_, refl, _∙_, subst}
-use mathlib.Core.Bool.{Bool, true, false, cond}
-use mathlib.Core.List.{List, [], _∷_, _++_}
+use native.Mathlib.Decide.{ℕ-discrete}
+use mathlib.Core.Path.{_≡_, refl, sym, _∙_}
+use mathlib.Core.List.{List, [], _∷_}
 use borrow.Author.Tests.{eq-eqb, ne-eqb}
 use lib.Dec.{eqb}
-use lib.ListN.{length, take, set, length-append, length-set}
-use lib.Seq.{take-suc-set, append-snoc}
-use lib.IntN.{ℤ, pos, natAbs, _-ℤ_}
-use Rattle.answer.specs.declared.Amount.{Amount}
-use Rattle.answer.specs.Told.{told}
-use Rattle.answer.proofs.Telling.{value-given, both, inside-yes}
-use Rattle.steps.specs.Area.{areaStep, doubled}
+use lib.ListN.{length, getD, length-append, List·getD-append}
+use lib.Seq.{getD-at, getD-append-add}
+use lib.IntN.{ℤ, pos, natAbs, _+ℤ_, _-ℤ_, _*ℤ_, +ℤ-idr}
+use Rattle.whole.proofs.Ring.{ring, exps}
+use Rattle.steps.specs.Area.{northing, easting, cross, doubledTo, doubled}
+use Rattle.steps.specs.Course.{Axis, north, east}
+use Rattle.steps.proofs.Areas.{small-at, next-first, next-on, round-next, round-last}
 use Rattle.tape.specs.declared.Point.{Point}
-use Rattle.desk.specs.Traverse.{same}
-use Rattle.desk.specs.Inside.{wordAt, takenFrom, Placed}
+use Rattle.desk.specs.Traverse.{same, at}
+use Rattle.desk.specs.Inside.{wordAt, takenFrom, TakenAt, Ranged, Placed}
+use Rattle.desk.specs.declared.area.Offsets.{Offsets}
 
 -- ---- whether there is a loop
 module _ (p q : Point) where
@@ -30,38 +31,36 @@ module _ (p q : Point) where
 pub word-fits : (z w : ℤ) → z ≡ w → natAbs w < 2 ^ 40 → natAbs z < 2 ^ 62
 word-fits z w e h = rw e (omega arith)
 
--- ---- two words more
-take-two : (l : List ℤ) (k : ℕ) (y z : ℤ) → 2 * k + 1 < length l → take (2 * (k + 1)) (set (set l (2 * k) y) (2 * k + 1) z) ≡ take (2 * k) l ++ (y ∷ z ∷ [])
-take-two l k y z h =
-    let e : 2 * (k + 1) ≡ suc (2 * k + 1) = omega arith in
-    rw (e, take-suc-set (set l (2 * k) y) (2 * k + 1) z (omega (arith, length-set l (2 * k) y)), add-one (2 * k), take-suc-set l (2 * k) y (omega arith))
-    (append-snoc (take (2 * k) l) y (z ∷ []))
-
 -- ---- the list of what is taken from the first station
 module _ (words : List ℤ) where
-  pub taken-length : (k : ℕ) → length (takenFrom words k) ≡ 2 * k
+  taken-length : (k : ℕ) → length (takenFrom words k) ≡ 2 * k
   unfolding takenFrom
   taken-length zero = refl
   taken-length (suc k) = omega (arith, length-append (takenFrom words k) ((wordAt words (2 * k) -ℤ wordAt words 0) ∷ (wordAt words (2 * k + 1) -ℤ wordAt words 1) ∷ []), taken-length k)
 
-  pub taken-count : (k : ℕ) (l : List ℤ) → l ≡ takenFrom words k → 2 * k ≡ length l
-  taken-count k l e = rw (e, taken-length k)
-
-  pub taken-first : (l : List ℤ) → take (2 * 0) l ≡ takenFrom words 0
+  -- the two words of its last station, and of any
+  taken-last : (axis : Axis) (k : ℕ) → getD (takenFrom words (suc k)) (at axis k) (pos 0) ≡ wordAt words (at axis k) -ℤ wordAt words (at axis 0)
   unfolding takenFrom
-  taken-first l = refl
+  taken-last north k = getD-at (takenFrom words k) _ _ (pos 0) (2 * k) (taken-length k)
+  taken-last east k =
+      let e : 2 * k + 1 ≡ length (takenFrom words k) + 1 = omega (arith, taken-length k) in
+      rw e (getD-append-add (takenFrom words k) _ 1 (pos 0))
 
-  pub taken-next : (k n : ℕ) (first l m : List ℤ) → Placed n words → k < n → take (2 * k) l ≡ takenFrom words k → length l ≡ length first → 128 ≤ length first
-      → m ≡ set (set l (2 * k) (wordAt words (2 * k) -ℤ wordAt words 0)) (2 * k + 1) (wordAt words (2 * k + 1) -ℤ wordAt words 1)
-      → take (2 * (k + 1)) m ≡ takenFrom words (k + 1)
+  taken-room : (axis : Axis) (k n : ℕ) → k < n → at axis k < length (takenFrom words n)
+  taken-room north k n h = omega (arith, taken-length n)
+  taken-room east k n h = omega (arith, taken-length n)
+
+  taken-at : (axis : Axis) (k n : ℕ) → k < n → getD (takenFrom words n) (at axis k) (pos 0) ≡ wordAt words (at axis k) -ℤ wordAt words (at axis 0)
   unfolding takenFrom
-  taken-next k n first l m p h e r s f = rw (f, take-two l k _ _ (omega (arith, p .few)), e, add-one k)
+  taken-at axis k zero h = absurd (omega arith)
+  taken-at axis k (suc n) h =
+      elim (ℕ-discrete k n) [
+        | yes e ↦ rw e (taken-last axis n)
+        | no e ↦ List·getD-append (takenFrom words n) _ (pos 0) (at axis k) (taken-room axis k n (omega arith)) ∙ taken-at axis k n (omega arith)
+      ]
 
-  pub taken-last : (k n : ℕ) (l : List ℤ) → k ≤ n → n ≤ k → take (2 * k) l ≡ takenFrom words k → take (2 * n) l ≡ takenFrom words n
-  taken-last k n l h i e = let j : k ≡ n = omega arith in subst (λ (q : ℕ). take (2 * q) l ≡ takenFrom words q) j e
-
-  -- ---- the words of a station, and of the first
   module _ (n : ℕ) (p : Placed n words) where
+    -- ---- the words of a station, and of the first
     pub north-fits : (k : ℕ) → k < n → natAbs (wordAt words (2 * k)) < 2 ^ 40
     north-fits k h = p .north k h
 
@@ -74,16 +73,41 @@ module _ (words : List ℤ) where
     pub first-east-fits : natAbs (wordAt words 1) < 2 ^ 40
     first-east-fits = p .east 0 (omega (arith, p .some))
 
-    -- ---- the area
-    module _ (looped : Bool) where
-      pub area-is : (r : Amount) (v : ℤ) (l : List ℤ) → looped ≡ true → told r ≡ areaStep l → v ≡ told r .value → l ≡ takenFrom words n
-          → v ≡ cond looped (doubled (takenFrom words n)) (pos 0)
-      area-is r v l f t g i =
-          let m = taken-length n in
-          let s : told r ≡ areaStep (takenFrom words n) = rw (← i) t in
-          let count = inside-yes 2 128 (length (takenFrom words n)) (omega (arith, m, p .some)) (omega (arith, m, p .few)) in
-          let even = eq-eqb (length (takenFrom words n) % 2) 0 (omega (arith, m)) in
-          rw f (g ∙ value-given (told r) _ _ s (both _ _ (both _ _ count even) (p .near)))
+    -- ---- the offsets of a station
+    module _ (k : ℕ) (o : Offsets) (h : k < n) (t : TakenAt words k o) where
+      north-is : o .north .v ≡ northing (takenFrom words n) k
+      north-is = t .north ∙ sym (taken-at north k n h)
 
-      pub area-none : looped ≡ false → pos 0 ≡ cond looped (doubled (takenFrom words n)) (pos 0)
-      area-none f = rw f
+      east-is : o .east .v ≡ easting (takenFrom words n) k
+      east-is = t .east ∙ sym (taken-at east k n h)
+
+      pub ranged : Ranged o
+      ranged =
+          let l = takenFrom words n in
+          record { north = rw north-is (small-at l (2 * k) (p .near) (taken-room north k n h)); east = rw east-is (small-at l (2 * k + 1) (p .near) (taken-room east k n h)) }
+
+    -- ---- the sum
+    pub sum-next : (i : ℕ) (here there : Offsets) (sum z r : ℤ) → r ≡ sum +ℤ z → z ≡ here .north .v *ℤ there .east .v -ℤ there .north .v *ℤ here .east .v → TakenAt words i here
+        → TakenAt words (i + 1) there → i + 1 < n → sum ≡ doubledTo (takenFrom words n) i → r ≡ doubledTo (takenFrom words n) (i + 1)
+    unfolding cross
+    sum-next i here there sum z r e f s t h g =
+        let l = takenFrom words n in
+        let k : i < n = omega arith in
+        let c : z ≡ cross l i (i + 1) = f ∙ rw (north-is i here k s, east-is i here k s, north-is (i + 1) there h t, east-is (i + 1) there h t) in
+        round-next l i n (i + 1) sum z r e c (next-on i n k (λ q. omega arith)) g (sym (taken-length n))
+
+    -- two stations, one of them the first, make no triangle with it
+    last-nothing : (i : ℕ) → pos 0 ≡ cross (takenFrom words n) i 0
+    unfolding cross
+    last-nothing i =
+        let l = takenFrom words n in
+        let h : 0 < n = omega (arith, p .some) in
+        rw (taken-at north 0 n h, taken-at east 0 n h)
+        (ring (northing l i ∷ easting l i ∷ wordAt words 0 ∷ wordAt words 1 ∷ []) (λ v. search exps) tt)
+
+    pub sum-last : (i : ℕ) (sum : ℤ) → sum ≡ doubledTo (takenFrom words n) i → i < n → n ≤ i + 1 → sum ≡ doubled (takenFrom words n)
+    sum-last i sum e h k =
+        let l = takenFrom words n in
+        let m = sym (taken-length n) in
+        let last = round-next l i n 0 sum (pos 0) sum (sym (+ℤ-idr sum)) (last-nothing i) (next-first i n (omega arith)) e m in
+        round-last l (i + 1) n sum last (omega arith) (omega arith) m

@@ -31,6 +31,7 @@ use Rattle.desk.specs.declared.Checked.the-variants as checked
 use Rattle.tape.specs.declared.Control.{Control}
 use Rattle.desk.specs.declared.Figures.{Figures}
 use Rattle.desk.specs.declared.Sums.{Sums}
+use Rattle.desk.specs.declared.area.Offsets.{Offsets}
 
 -- what was taken of a tape that reads
 pub record Known (tape : List ℕ) (c : Control) : Type 0 where
@@ -197,6 +198,16 @@ putTo spots runs c (suc k) words =
 unfoldable pub takenFrom : List ℤ → ℕ → List ℤ
 takenFrom words zero = []
 takenFrom words (suc k) = takenFrom words k ++ ((wordAt words (2 * k) -ℤ wordAt words 0) ∷ (wordAt words (2 * k + 1) -ℤ wordAt words 1) ∷ [])
+
+-- o is station k of the words, taken from the first
+pub record TakenAt (words : List ℤ) (k : ℕ) (o : Offsets) : Type 0 where
+  pub north : o .north .v ≡ wordAt words (2 * k) -ℤ wordAt words 0
+  pub east : o .east .v ≡ wordAt words (2 * k + 1) -ℤ wordAt words 1
+
+-- offsets within the ranges of the area step
+pub record Ranged (o : Offsets) : Type 0 where
+  pub north : natAbs (o .north .v) ≤ 130000000
+  pub east : natAbs (o .east .v) ≤ 130000000
 
 -- words of n stations within the ranges of the area step
 pub record Placed (n : ℕ) (words : List ℤ) : Type 0 where

@@ -5,11 +5,17 @@ use whole::Whole;
 ghost use mathlib.Core.Path.{_≡_};
 ghost use mathlib.Core.Bool.{cond};
 ghost use Prim.Native.Nat.{_+_, _*_, _≤_, _<_, _^_};
-ghost use lib.ListN.{length, set, take};
-ghost use lib.IntN.{pos, natAbs, _-ℤ_};
+ghost use lib.ListN.{length};
+ghost use lib.IntN.{pos, natAbs, _-ℤ_, _*ℤ_};
 ghost use Rattle.steps.specs.Area.{doubled};
 ghost use Rattle.desk.specs.Traverse.{same};
-ghost use Rattle.desk.specs.Inside.{wordAt, takenFrom, Placed};
+ghost use Rattle.desk.specs.Inside.{wordAt, takenFrom, TakenAt, Ranged, Placed};
+
+// The offsets of a station: how far north and east of the first it stands.
+struct Offsets {
+    north: Whole,
+    east: Whole,
+}
 
 // Whether the two fixed points are the same.
 pub fn is_loop(from: Point, to: Point) -> bool
@@ -27,28 +33,44 @@ fn apart(words: &[i64], at: usize, first: usize) -> Whole
     places::word(words, at).minus(places::word(words, first))
 }
 
-// Station k, taken from the first: northing, then easting.
-fn put_offset(words: &[i64], k: usize, offsets: &mut [i64])
-    requires { ⌜ (2 * k + 1 < length (now words)) × (2 * k + 1 < length (now offsets)) ⌝ }
+// Station k, taken from the first.
+fn offsets_at(words: &[i64], k: usize) -> Offsets
+    requires { ⌜ 2 * k + 1 < length (now words) ⌝ }
     requires { ⌜ (natAbs (wordAt (now words) (2 * k)) < 2 ^ 40) × (natAbs (wordAt (now words) 0) < 2 ^ 40) ⌝ }
     requires { ⌜ (natAbs (wordAt (now words) (2 * k + 1)) < 2 ^ 40) × (natAbs (wordAt (now words) 1) < 2 ^ 40) ⌝ }
-    ensures { λ r. ⌜ now (offsets .exit) ≡ set (set (now (offsets .entry)) (2 * k) (wordAt (now (words .entry)) (2 * k) -ℤ wordAt (now (words .entry)) 0)) (2 * k + 1) (wordAt (now (words .entry)) (2 * k + 1) -ℤ wordAt (now (words .entry)) 1) ⌝ }
+    ensures { λ r. ⌜ TakenAt (now (words .entry)) k r ⌝ }
 {
-    places::put(offsets, 2 * k, apart(words, 2 * k, 0));
-    places::put(offsets, 2 * k + 1, apart(words, 2 * k + 1, 1));
+    let north = apart(words, 2 * k, 0);
+    let east = apart(words, 2 * k + 1, 1);
+    Offsets { north, east }
 }
 
-// The first n stations, taken from the first.
-fn put_offsets(n: usize, words: &[i64], offsets: &mut [i64])
-    requires { ⌜ Placed n (now words) ⌝ }
-    requires { ⌜ 128 ≤ length (now offsets) ⌝ }
-    ensures { λ r. ⌜ take (2 * n) (now (offsets .exit)) ≡ takenFrom (now (words .entry)) n ⌝ }
+// Twice the area of the triangle that two stations make with the first.
+fn cross(here: Offsets, there: Offsets) -> Whole
+    requires { ⌜ Ranged here × Ranged there ⌝ }
+    ensures is { λ r. ⌜ r .v ≡ here .north .v *ℤ there .east .v -ℤ there .north .v *ℤ here .east .v ⌝ }
+    ensures size { λ r. ⌜ natAbs (r .v) ≤ 33800000000000000 ⌝ }
 {
-    let mut k: usize = 0;
-    while k < n {
-        put_offset(words, k, offsets);
-        k = k + 1;
+    here.north
+        .times(there.east)
+        .minus(there.north.times(here.east))
+}
+
+// The sum round n stations. The first station makes no triangle with itself, so the sum ends at the last station but one.
+fn round(words: &[i64], n: usize) -> Whole
+    requires { ⌜ Placed n (now words) ⌝ }
+    ensures { λ r. ⌜ r .v ≡ doubled (takenFrom (now (words .entry)) n) ⌝ }
+{
+    let mut sum = Whole { v: 0 };
+    let mut here = offsets_at(words, 0);
+    let mut i: usize = 0;
+    while i + 1 < n {
+        let there = offsets_at(words, i + 1);
+        sum = sum.plus(cross(here, there));
+        here = there;
+        i = i + 1;
     }
+    sum
 }
 
 // The doubled area of a loop of n legs; zero where the traverse is no loop.
@@ -57,9 +79,7 @@ pub fn area(looped: bool, n: usize, words: &[i64]) -> Whole
     ensures { λ r. ⌜ r .v ≡ cond looped (doubled (takenFrom (now (words .entry)) n)) (pos 0) ⌝ }
 {
     if looped {
-        let mut offsets = [0i64; 128];
-        put_offsets(n, words, &mut offsets);
-        return steps::area::doubled_area(&offsets[..2 * n]).value();
+        return round(words, n);
     }
     Whole { v: 0 }
 }

@@ -1,10 +1,8 @@
--- The arcs: one test that antt computes over an arc and its part of the table says that the arc has those entries, and of the table the rule is proved; and
--- a k that is no key of the code's arcs is past them all.
+-- The arcs: one test that antt computes over an arc and its part of the table says that the arc has those entries, and of the table the rule is proved.
 use mathlib.Core.Path.{_≡_, sym, _∙_, ap, subst}
 use mathlib.Core.Bool.{Bool, _&&_}
 use mathlib.Core.List.{List}
-use Prim.{Unit, ⊥}
-use Prim.Native.Nat.{ℕ, zero, suc, _+_, _-_, _*_, _/_, _%_, _^_, _≤_, _<_, min}
+use Prim.Native.Nat.{ℕ, _+_, _-_, _*_, _/_, _%_, _^_, _≤_, _<_, min}
 use native.Mathlib.Omega.{arith}
 use lib.Dec.{T, leb, leb→le, eqb, eqb→eq, ltb, ltb→lt}
 use lib.ListN.{length, getD, take, drop, length-take, length-drop}
@@ -62,12 +60,3 @@ module _ (a b c d m x : ℕ) where
 
   pub next : Right a b c d (m / 32) → m < 5400 → x ≡ height a b c d (m % 32 + 1) → pos x ≡ entry (min (m + 1) 5400)
   next r h e = ap pos e ∙ r .each (m % 32 + 1) (omega arith) (omega arith) ∙ ap entry (omega arith)
-
--- ---- what is known of a k that is none of the keys below n
-abbrev Missed : ℕ → ℕ → Type 0
-Missed zero k = Unit
-Missed (suc n) k = Missed n k × (k ≡ n → ⊥)
-
-pub past : (n k : ℕ) → Missed n k → n ≤ k
-past zero k h = omega arith
-past (suc n) k h = omega (arith, past n k (h .0), h .1)

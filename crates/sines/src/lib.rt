@@ -51,7 +51,17 @@ fn counted(e: u32) -> u32
     e
 }
 
-// r tenths past a minute whose entry is e, where the next one's is f: by a straight line, to the nearest.
+// r tenths past a minute whose entry is e, where the next one's is f and no lower: by a straight line, to the nearest.
+fn rise(e: u32, f: u32, r: u32) -> u32
+    requires { ⌜ r ≤ 600 ⌝ }
+    requires { ⌜ (e ≤ f) × (f ≤ 1000000000) ⌝ }
+    ensures is { λ v. ⌜ pos v ≡ Sine·between (pos e) (pos f) r ⌝ }
+    ensures most { λ v. ⌜ v ≤ 1000000000 ⌝ }
+{
+    e + whole::half_up((f - e) as u64 * r as u64, 600) as u32
+}
+
+// The same where the next one may be lower.
 fn between(e: u32, f: u32, r: u32) -> u32
     requires { ⌜ r ≤ 600 ⌝ }
     requires { ⌜ (e ≤ 1000000000) × (f ≤ 1000000000) ⌝ }
@@ -59,7 +69,7 @@ fn between(e: u32, f: u32, r: u32) -> u32
     ensures most { λ v. ⌜ v ≤ 1000000000 ⌝ }
 {
     if e <= f {
-        return e + whole::half_up((f - e) as u64 * r as u64, 600) as u32;
+        return rise(e, f, r);
     }
     e - whole::half_up((e - f) as u64 * r as u64, 600) as u32
 }
@@ -74,14 +84,21 @@ fn unlent(m: usize, r: u32) -> u32
     between(p.e, p.f, r)
 }
 
-// The same by the entries of a lent table.
+// The same by the entries of a lent table. Those of a table of sines rise and are at most 1, which is tried first: then each counts as it stands.
 fn lent(table: &[u32], m: usize, r: u32) -> u32
     requires { ⌜ 5401 ≤ length (now table) ⌝ }
     requires { ⌜ (m ≤ 5399) × (r ≤ 600) ⌝ }
     ensures is { λ v. ⌜ pos v ≡ Sine·between (entryIn (now (table .entry)) m) (entryIn (now (table .entry)) (m + 1)) r ⌝ }
     ensures most { λ v. ⌜ v ≤ 1000000000 ⌝ }
 {
-    between(counted(table[m]), counted(table[m + 1]), r)
+    let e = table[m];
+    let f = table[m + 1];
+    if f <= 1000000000 {
+        if e <= f {
+            return rise(e, f, r);
+        }
+    }
+    between(counted(e), counted(f), r)
 }
 
 // The minute from which an angle of the first quadrant is counted. At 90 degrees it is the one before, 600 tenths back, so that there is always a next.

@@ -1,12 +1,12 @@
 -- How many digits a number has: one below ten, else one more than its tenth has. So it is the fewest that hold the number, and nothing is padded.
-use Prim.Native.Nat.{ℕ, zero, suc, _+_, _-_, _/_, _%_, _^_, _≤_, _<_}
+use Prim.Native.Nat.{ℕ, zero, suc, _+_, _-_, _*_, _/_, _%_, _^_, _≤_, _<_}
 use native.Mathlib.Omega.{arith}
 use native.Mathlib.Decide.{decLt}
-use native.Mathlib.Nat.{zero-add, pow-suc, pow-succ', one-le-pow, div-one, div-div-eq-div-mul}
+use native.Mathlib.Nat.{pow-suc, pow-succ', one-le-pow, div-div-eq-div-mul}
 use mathlib.Core.Path.{_≡_, refl, sym, _∙_, ap}
 use mathlib.Core.List.{List, [], _∷_}
 use borrow.Author.Tests.{lt-ltb, le-ltb}
-use lib.ListN.{length, set, length-append}
+use lib.ListN.{length, set, length-append, length-set}
 use lib.Seq.{sets}
 use mir.Syntax.{w64}
 use mir.Val.{Fits}
@@ -94,14 +94,6 @@ places-exact k n h i =
 pub tenth-first : (k n : ℕ) → n / 10 ^ suc k ≡ n / 10 / 10 ^ k
 tenth-first k n = rw (pow-succ' 10 k) (sym (div-div-eq-div-mul n 10 (10 ^ k)))
 
--- without its last k digits it has k fewer
-places-past : (k n : ℕ) → 10 ^ k ≤ n → k + places (n / 10 ^ k) ≡ places n
-places-past zero n h = rw (div-one n) (zero-add (places n))
-places-past (suc k) n h =
-    let i = pow-suc 10 k in
-    let j = one-le-pow k 10 (omega arith) in
-    rw (tenth-first k n) (omega (arith, i, j, places-past k (n / 10) (omega (arith, i)), places-high n (omega (arith, i, j))))
-
 -- ---- the count of the code, a digit at a time
 module _ (k n rest : ℕ) (e : k + places rest ≡ 1 + places n) where
   pub count-next : 9 < rest → k + 1 + places (rest / 10) ≡ 1 + places n
@@ -112,14 +104,6 @@ module _ (k n rest : ℕ) (e : k + places rest ≡ 1 + places n) where
 
   pub count-fits : Fits w64 n → 9 < rest → Fits w64 (k + 1)
   count-fits f h = omega (arith, places-high rest (omega arith), places-most 19 n (omega (arith, f .fits)))
-
--- ---- and by what is left without the last six digits
-module _ (r n : ℕ) (e : r ≡ places (n / 1000000)) where
-  pub long-fits : Fits w64 n → Fits w64 (6 + r)
-  long-fits f = omega (arith, places-most 19 (n / 1000000) (omega (arith, f .fits)))
-
-  pub long-count : 1000000 ≤ n → 6 + r ≡ places n
-  long-count h = rw e (places-past 6 n h)
 
 -- ---- the digits of the code, the last one first
 pub digits-length : (k n : ℕ) → length (digits k n) ≡ k
@@ -137,6 +121,10 @@ last-digit l at k n =
     sets-last (digits k (n / 10)) l (48 + n % 10) at
     ∙ ap (λ (i : ℕ). sets (set l (at + i) (48 + n % 10)) at (digits k (n / 10))) (digits-length k (n / 10))
 
+-- the bytes of two digits
+bytes-of : (a b t : ℕ) → a < 10 → b < 10 → t ≡ 48 + a + 256 * (48 + b) → (t % 256 ≡ 48 + a) × (t / 256 % 256 ≡ 48 + b)
+bytes-of a b t h i e = (omega arith, omega arith)
+
 module _ (l : List ℕ) (at k n : ℕ) where
   pub digits-room : Room l at (digits k n) → at + k ≤ length l
   digits-room h = omega (arith, digits-length k n)
@@ -152,6 +140,30 @@ module _ (l : List ℕ) (at k n : ℕ) where
     digit-last left e h =
         let f : left ≡ 0 = omega arith in
         record { bytes = rw f at e; next = ap (λ (i : ℕ). at + i) (sym (digits-length k n)) }
+
+    -- two at a time, t holding the bytes of both; and the one that may be left
+    pub pair-next : (left t : ℕ) → t ≡ 48 + rest % 100 / 10 + 256 * (48 + rest % 100 % 10) → sets m at (digits left rest) ≡ sets l at (digits k n) → 1 < left
+        → sets (set (set m (at + (left - 2) + 1) (t / 256 % 256)) (at + (left - 2)) (t % 256)) at (digits (left - 2) (rest / 100)) ≡ sets l at (digits k n)
+    pair-next zero t f e h = absurd (omega arith)
+    pair-next (suc zero) t f e h = absurd (omega arith)
+    pair-next (suc (suc j)) t f e h =
+        let i : suc (suc j) - 2 ≡ j = omega arith in
+        let tens : rest % 100 / 10 ≡ rest / 10 % 10 = omega arith in
+        let units : rest % 100 % 10 ≡ rest % 10 = omega arith in
+        let (first, last) = bytes-of (rest / 10 % 10) (rest % 10) t (omega arith) (omega arith) (f ∙ rw (tens, units)) in
+        let both : rest / 100 ≡ rest / 10 / 10 = omega arith in
+        let place : at + j + 1 ≡ at + suc j = omega arith in
+        rw (i, last, first, both, place) (sym (last-digit (set m (at + suc j) (48 + rest % 10)) at j (rest / 10)) ∙ sym (last-digit m at (suc j) rest) ∙ e)
+
+    pub second-within : (left v : ℕ) → left ≤ k → at + k ≤ length l → length m ≡ length l → 1 < left → at + (left - 2) < length (set m (at + (left - 2) + 1) v)
+    second-within left v h i e g = omega (arith, length-set m (at + (left - 2) + 1) v)
+
+    pub odd-last : (left : ℕ) → sets m at (digits left rest) ≡ sets l at (digits k n) → left ≤ 1 → (left ≡ 0 → ⊥) → Put l at (digits k n) (set m at (48 + rest % 10)) (at + k)
+    unfolding digits
+    odd-last left e h i =
+        let f : left ≡ 1 = omega arith in
+        let g : at + 0 ≡ at = omega arith in
+        record { bytes = rw g at (sym (last-digit m at 0 rest) ∙ rw f at e); next = ap (λ (j : ℕ). at + j) (sym (digits-length k n)) }
 
 -- as many digits as the number has
 module _ (l m : List ℕ) (at k n r : ℕ) (e : k ≡ places n) where

@@ -8,6 +8,8 @@ ghost use Rattle.text.specs.Text.{ascii, digits, decimal, sign, amount};
 ghost use Rattle.text.specs.Text.{places as Text·places};
 ghost use Rattle.text.specs.Room.{Room, Put};
 
+mod pairs;
+
 pub fn put(out: &mut [u8], at: usize, text: &[u8]) -> usize
     requires { ⌜ Room (now out) at (now text) ⌝ }
     ensures { λ r. ⌜ Put (now (out .entry)) at (now (text .entry)) (now (out .exit)) r ⌝ }
@@ -33,8 +35,8 @@ fn long_places(n: u64) -> usize
     k
 }
 
-// The same, with comparisons for the first six digits: nearly all numbers of a sheet then take one division or none, where each digit took one.
-fn places(n: u64) -> usize
+// The same of a number of 32 bits, by comparisons, where each digit takes a division above.
+fn places(n: u32) -> usize
     ensures { λ r. ⌜ r ≡ Text·places n ⌝ }
 {
     if n < 10 {
@@ -55,7 +57,16 @@ fn places(n: u64) -> usize
     if n < 1000000 {
         return 6;
     }
-    6 + long_places(n / 1000000)
+    if n < 10000000 {
+        return 7;
+    }
+    if n < 100000000 {
+        return 8;
+    }
+    if n < 1000000000 {
+        return 9;
+    }
+    10
 }
 
 // The last k digits of a number, with zeros in front where it has fewer. The last one is put first.
@@ -73,12 +84,36 @@ pub fn put_digits(out: &mut [u8], at: usize, n: u64, k: usize) -> usize
     at + k
 }
 
+// The same of a number of 32 bits, two digits a turn: nearly every number of a sheet is one, and most of a sheet's cost is its digits.
+fn put_pairs(out: &mut [u8], at: usize, n: u32, k: usize) -> usize
+    requires { ⌜ Room (now out) at (digits k n) ⌝ }
+    ensures { λ r. ⌜ Put (now (out .entry)) at (digits k n) (now (out .exit)) r ⌝ }
+{
+    let mut left = k;
+    let mut rest = n;
+    while left > 1 {
+        left = left - 2;
+        let two = pairs::pair(rest % 100);
+        out[at + left + 1] = (two / 256 % 256) as u8;
+        out[at + left] = (two % 256) as u8;
+        rest = rest / 100;
+    }
+    if left == 0 {
+        return at + k;
+    }
+    out[at] = (48 + rest % 10) as u8;
+    at + k
+}
+
 pub fn put_decimal(out: &mut [u8], at: usize, n: u64) -> usize
     requires { ⌜ Room (now out) at (decimal n) ⌝ }
     ensures { λ r. ⌜ Put (now (out .entry)) at (decimal n) (now (out .exit)) r ⌝ }
 {
-    let k = places(n);
-    put_digits(out, at, n, k)
+    if n < 4294967296 {
+        let short = n as u32;
+        return put_pairs(out, at, short, places(short));
+    }
+    put_digits(out, at, n, long_places(n))
 }
 
 // A number of units of which `unit` make a whole one, with d decimals.

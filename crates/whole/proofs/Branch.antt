@@ -1,6 +1,7 @@
 -- A choice by a test, from the fact that the code's test tells. `search branch` and `search told` apply these backwards, and so go from the branches
 -- of the code to those of a definition.
-use Prim.Native.Nat.{ℕ, _≤_, _<_}
+use Prim.{Unit, ⊥}
+use Prim.Native.Nat.{ℕ, zero, suc, _≤_, _<_}
 use mathlib.Core.Path.{_≡_, refl}
 use mathlib.Core.Bool.{Bool, true, false, not, cond, _&&_, _||_}
 use native.Mathlib.Omega.{arith}
@@ -102,3 +103,12 @@ either false q f g e = g e
 pub left : (p : Bool) (n : ℕ) → 0 < n → cond p 0 n ≡ 0 → p ≡ true
 left true n h e = refl
 left false n h e = absurd (omega arith)
+
+-- ---- what the last arm of a match knows: a number that is none of the keys below n is past them all
+abbrev Missed : ℕ → ℕ → Type 0
+Missed zero k = Unit
+Missed (suc n) k = Missed n k × (k ≡ n → ⊥)
+
+pub past : (n k : ℕ) → Missed n k → n ≤ k
+past zero k h = omega arith
+past (suc n) k h = omega (arith, past n k (h .0), h .1)

@@ -1,17 +1,22 @@
 -- `lent` meets its contract: a table has a minute and the next, each counts as in the definition of a lent list's entries, and the line goes between them.
+-- Where the entries rise and are at most 1, each counts as it stands.
 use borrow.Author.Needs.{needs}
+use native.Mathlib.Omega.{arith}
 use Rattle.sines.proofs.Own.{lent-line}
 use Rattle.sines.proofs.lent.Statement.{statement}
 use Rattle.sines.proofs.lent.Tie as tie
 
 returns : tie.Need-returns
-returns c = (search lent-line, search needs)
+returns c = (lent-line _ _ _ _ _ (c .rise .ensures .0) _ (omega arith) (omega arith) (omega arith) (omega arith), search needs)
+
+returns-2 : tie.Need-returns-2
+returns-2 c = (search lent-line, search needs)
 
 pub lent-spec : {M : Type 1} → statement M
 lent-spec =
     tie.close
     (tie.spec
-    (λ c. search needs) (λ c. search needs) (λ c κs. search needs)
-    (λ c. search needs) (λ c. search needs) (λ c. search needs) (λ c κs. search needs)
-    (λ c κs. search needs)
-    returns)
+    (λ c. search needs) (λ c. search needs) (λ c. search needs) (λ c. search needs) (λ c. search needs) (λ c κs. search needs)
+    returns
+    (λ c κs. search needs) (λ c κs. search needs) (λ c κs. search needs)
+    returns-2)

@@ -1,8 +1,7 @@
--- `places` meets its contract: a number between two powers of ten has as many digits as the higher one has zeros, and without its last six it has six fewer.
+-- `places` meets its contract: a number between two powers of ten has as many digits as the higher one has zeros.
 use native.Mathlib.Omega.{arith}
 use mathlib.Core.Path.{sym}
-use borrow.Author.Needs.{needs}
-use Rattle.text.proofs.Digits.{places-low, places-exact, long-fits, long-count}
+use Rattle.text.proofs.Digits.{places-low, places-exact}
 use Rattle.text.proofs.places.Statement.{statement}
 use Rattle.text.proofs.places.Tie as tie
 
@@ -24,25 +23,17 @@ returns-5 c = places-exact 4 _ (omega arith) (omega arith)
 returns-6 : tie.Need-returns-6
 returns-6 c = places-exact 5 _ (omega arith) (omega arith)
 
-long-places-requires : tie.Need-long-places-requires
-long-places-requires c κs = search needs
-
-add-result : tie.Need-add-result
-add-result c = search long-fits
-
 returns-7 : tie.Need-returns-7
-returns-7 c = search long-count
+returns-7 c = places-exact 6 _ (omega arith) (omega arith)
+
+returns-8 : tie.Need-returns-8
+returns-8 c = places-exact 7 _ (omega arith) (omega arith)
+
+returns-9 : tie.Need-returns-9
+returns-9 c = places-exact 8 _ (omega arith) (omega arith)
+
+returns-10 : tie.Need-returns-10
+returns-10 c = places-exact 9 _ (omega arith) (omega arith)
 
 pub places-spec : {M : Type 1} → statement M
-places-spec =
-    tie.close
-    (tie.spec
-    returns
-    returns-2
-    returns-3
-    returns-4
-    returns-5
-    returns-6
-    long-places-requires
-    add-result
-    returns-7)
+places-spec = tie.close (tie.spec returns returns-2 returns-3 returns-4 returns-5 returns-6 returns-7 returns-8 returns-9 returns-10)

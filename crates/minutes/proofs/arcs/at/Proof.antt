@@ -1,8 +1,9 @@
 -- `at` meets its contract: each arc passes the test against its part of the table, which antt computes. The last one stands for every k that is no key
 -- before it, and of these k ≤ 168 leaves 168.
 use native.Mathlib.Omega.{arith}
+use Rattle.whole.proofs.Branch.{past}
 use Rattle.minutes.specs.Inside.{height}
-use Rattle.minutes.proofs.Curve.{good, arc-right, past}
+use Rattle.minutes.proofs.Curve.{good, arc-right}
 use Rattle.minutes.proofs.Listed.{minutes}
 use Rattle.minutes.proofs.arcs.at.Statement.{statement}
 use Rattle.minutes.proofs.arcs.at.Tie as tie
