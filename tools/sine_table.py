@@ -5,9 +5,10 @@ The nine-decimal sine of every whole minute from 0 to 90 degrees is the nearest 
 through the 19th power up to and including 45 degrees, the cosine's of the complement through the 20th above, with
 pi = 3.14159265358979323846.
 
-An arc has the entries of 32 minutes and of the one behind them: a curve of the third degree that meets the exact sine at
-four points but for rounding, in parts of 2 ** 24 to a unit of the ninth decimal. i minutes behind its start the entry is
-(start + i * (rise - i * (bend + i * turn))) / 2 ** 24, its parts dropped.
+An arc has the entries of 16 minutes and of the one behind them: a curve of the second degree that meets the exact sine at
+three points but for rounding, in parts of 2 ** 24 to a unit of the ninth decimal, and a mark for each entry that is a unit
+above the curve. i minutes behind its start the entry is (start + i * (rise - i * bend)) / 2 ** 24, its parts dropped, and
+one more where bit i of the marks is set.
 
 usage: tools/sine_table.py write    write the table and the arcs into the source, and the list into the proofs (then `rt fmt`)
        tools/sine_table.py check    say whether all three are what this program makes
@@ -20,10 +21,10 @@ from math import factorial
 
 PI = Fraction(314159265358979323846, 10**20)
 LAST = 90 * 60
-WIDTH = 32
+WIDTH = 16
 PARTS = 2**24
-# where a curve meets the exact sine: spread so that it is nowhere far off between them; the second four for an arc that the first do not serve
-POINTS = ((Fraction(6, 5), Fraction(99, 10), Fraction(221, 10), Fraction(154, 5)), (3, 11, 21, 29))
+# where a curve meets the exact sine: spread so that it is nowhere far off between them; the second three for the first arc, which may not start below 0
+POINTS = ((1, 8, 15), (0, 7, 14))
 ROOT = pathlib.Path(__file__).resolve().parent.parent
 CONSTANT = ROOT / "crates/minutes/src/constant.rt"
 LISTED = ROOT / "crates/minutes/proofs/Listed.antt"
@@ -47,12 +48,12 @@ ARCS_HEAD = """\
 ghost use Prim.Native.Nat.{_≤_};
 ghost use Rattle.minutes.specs.Inside.{Right};
 
-// Its start, rise, bend and turn.
+// Its start, rise, bend and marks.
 pub struct Arc(pub u64, pub u64, pub u64, pub u64);
 
-// The arc of the minutes from 32 k on.
+// The arc of the minutes from 16 k on.
 pub fn at(k: usize) -> Arc
-    requires { ⌜ k ≤ 168 ⌝ }
+    requires { ⌜ k ≤ 337 ⌝ }
     ensures { λ r. ⌜ Right (r .0) (r .1) (r .2) (r .3) k ⌝ }
 {
     match k {
@@ -97,23 +98,29 @@ def through(xs, ys):
     return curve
 
 
-def climb(rise, bend, turn, i):
-    return i * (rise - i * (bend + i * turn))
+def climb(rise, bend, i):
+    return i * (rise - i * bend)
+
+
+def below(arc, i):
+    """The whole units of the curve, which the entry is or is one above."""
+    return (arc[0] + climb(*arc[1:3], i)) // PARTS
 
 
 def height(arc, i):
-    return (arc[0] + climb(*arc[1:], i)) // PARTS
+    return below(arc, i) + (arc[3] >> i) % 2
 
 
 def arc(first, entries):
-    """The arc of the minutes from `first` on, whose entries are given: its start in the middle of those that make them all."""
+    """The arc of the minutes from `first` on, whose entries are given: its start in the middle of those that are no more than a mark off."""
     for points in POINTS:
         curve = through(points, [PARTS * 10**9 * exact_sine(first + x) for x in points])
-        rise, bend, turn = round(curve[1]), round(-curve[2]), round(-curve[3])
-        starts = [PARTS * entry - climb(rise, bend, turn, i) for i, entry in enumerate(entries)]
-        least, most = max(starts), min(starts) + PARTS - 1
+        rise, bend = round(curve[1]), round(-curve[2])
+        starts = [PARTS * entry - climb(rise, bend, i) for i, entry in enumerate(entries)]
+        least, most = max(0, max(starts) - PARTS), min(starts) + PARTS - 1
         if least <= most:
-            return (least + most) // 2, rise, bend, turn
+            curve = (least + most) // 2, rise, bend
+            return *curve, sum((entry - below(curve, i)) << i for i, entry in enumerate(entries))
     sys.exit(f"no curve has all entries from minute {first} on")
 
 

@@ -14,34 +14,34 @@ use Rattle.minutes.proofs.Entries.{minutes-right}
 use Rattle.minutes.proofs.Every.{both, every, at}
 use Rattle.minutes.proofs.Listed.{minutes}
 
--- the table's entries from 32 k on, and the one behind them
+-- the table's entries from 16 k on, and the one behind them
 abbrev pub part : ℕ → List ℕ
-part k = take 33 (drop (32 * k) minutes)
+part k = take 17 (drop (16 * k) minutes)
 
 module _ (a b c d : ℕ) where
   -- the arc has the entry x, i minutes behind its start, and its arithmetic stays small there
   unfoldable pub good : ℕ → ℕ → Bool
-  good i x = eqb (height a b c d i) x && (leb ((1 + i) * (c + i * d)) b && ltb (a + i * (b - i * (c + i * d))) (2 ^ 56))
+  good i x = eqb (height a b c d i) x && (leb (i * c) b && ltb (a + i * (b - i * c)) (2 ^ 55))
 
   module _ (i x : ℕ) (t : T (good i x)) where
-    parts : T (eqb (height a b c d i) x) × T (leb ((1 + i) * (c + i * d)) b && ltb (a + i * (b - i * (c + i * d))) (2 ^ 56))
+    parts : T (eqb (height a b c d i) x) × T (leb (i * c) b && ltb (a + i * (b - i * c)) (2 ^ 55))
     unfolding good
-    parts = both (eqb (height a b c d i) x) (leb ((1 + i) * (c + i * d)) b && ltb (a + i * (b - i * (c + i * d))) (2 ^ 56)) t
+    parts = both (eqb (height a b c d i) x) (leb (i * c) b && ltb (a + i * (b - i * c)) (2 ^ 55)) t
 
     good-entry : height a b c d i ≡ x
     good-entry = eqb→eq (height a b c d i) x (parts .0)
 
-    good-small : Small a b c d i
+    good-small : Small a b c i
     good-small =
-        let ts = both (leb ((1 + i) * (c + i * d)) b) (ltb (a + i * (b - i * (c + i * d))) (2 ^ 56)) (parts .1) in
-        record { falls = leb→le ((1 + i) * (c + i * d)) b (ts .0); most = ltb→lt (a + i * (b - i * (c + i * d))) (2 ^ 56) (ts .1) }
+        let ts = both (leb (i * c) b) (ltb (a + i * (b - i * c)) (2 ^ 55)) (parts .1) in
+        record { falls = leb→le (i * c) b (ts .0); most = ltb→lt (a + i * (b - i * c)) (2 ^ 55) (ts .1) }
 
   module _ (k : ℕ) (t : T (every good 0 (part k))) where
-    part-good : (i : ℕ) → i ≤ 32 → 32 * k + i ≤ 5400 → T (good i (getD (part k) i 0))
-    part-good i h g = at good (part k) t i (omega (arith, length-take 33 (drop (32 * k) minutes), length-drop (32 * k) minutes, minutes-right .count))
+    part-good : (i : ℕ) → i ≤ 16 → 16 * k + i ≤ 5400 → T (good i (getD (part k) i 0))
+    part-good i h g = at good (part k) t i (omega (arith, length-take 17 (drop (16 * k) minutes), length-drop (16 * k) minutes, minutes-right .count))
 
-    part-entry : (i : ℕ) → i ≤ 32 → 32 * k + i ≤ 5400 → pos (getD (part k) i 0) ≡ entry (32 * k + i)
-    part-entry i h g = ap pos (getD-take 33 (drop (32 * k) minutes) i 0 (omega arith) ∙ getD-drop (32 * k) minutes i 0) ∙ minutes-right .each (32 * k + i) g
+    part-entry : (i : ℕ) → i ≤ 16 → 16 * k + i ≤ 5400 → pos (getD (part k) i 0) ≡ entry (16 * k + i)
+    part-entry i h g = ap pos (getD-take 17 (drop (16 * k) minutes) i 0 (omega arith) ∙ getD-drop (16 * k) minutes i 0) ∙ minutes-right .each (16 * k + i) g
 
     tested : Right a b c d k
     tested =
@@ -55,8 +55,8 @@ module _ (a b c d : ℕ) where
 
 -- ---- the minutes of the arc that the code takes for m
 module _ (a b c d m x : ℕ) where
-  pub here : Right a b c d (m / 32) → m < 5400 → x ≡ height a b c d (m % 32) → pos x ≡ entry (min m 5400)
-  here r h e = ap pos e ∙ r .each (m % 32) (omega arith) (omega arith) ∙ ap entry (omega arith)
+  pub here : Right a b c d (m / 16) → m < 5400 → x ≡ height a b c d (m % 16) → pos x ≡ entry (min m 5400)
+  here r h e = ap pos e ∙ r .each (m % 16) (omega arith) (omega arith) ∙ ap entry (omega arith)
 
-  pub next : Right a b c d (m / 32) → m < 5400 → x ≡ height a b c d (m % 32 + 1) → pos x ≡ entry (min (m + 1) 5400)
-  next r h e = ap pos e ∙ r .each (m % 32 + 1) (omega arith) (omega arith) ∙ ap entry (omega arith)
+  pub next : Right a b c d (m / 16) → m < 5400 → x ≡ height a b c d (m % 16 + 1) → pos x ≡ entry (min (m + 1) 5400)
+  next r h e = ap pos e ∙ r .each (m % 16 + 1) (omega arith) (omega arith) ∙ ap entry (omega arith)

@@ -1,20 +1,21 @@
--- What the private functions promise one another: the arcs beside the table. Over 32 minutes the sine is so near to a curve of the third degree that the
--- heights of the curve, in parts of 2 ^ 24 to a unit of the ninth decimal, are the entries when the parts are dropped. The public promises do not mention it.
+-- What the private functions promise one another: the arcs beside the table. Over 16 minutes the sine is so near to a curve of the second degree that an entry
+-- is the height of the curve, in parts of 2 ^ 24 to a unit of the ninth decimal, when the parts are dropped, or one more: which of the two, a mark says for
+-- each. The public promises do not mention it.
 use mathlib.Core.Path.{_≡_}
-use Prim.Native.Nat.{ℕ, _+_, _-_, _*_, _/_, _^_, _≤_, _<_}
+use Prim.Native.Nat.{ℕ, _+_, _-_, _*_, _/_, _%_, _^_, _≤_, _<_}
 use lib.IntN.{pos}
 use Rattle.minutes.specs.Entry.{entry}
 
--- in whole units, i minutes behind the arc's start
+-- in whole units, i minutes behind the arc's start; bit i of the marks is added
 unfoldable pub height : ℕ → ℕ → ℕ → ℕ → ℕ → ℕ
-height start rise bend turn i = (start + i * (rise - i * (bend + i * turn))) / 2 ^ 24
+height start rise bend marks i = (start + i * (rise - i * bend)) / 2 ^ 24 + marks / 2 ^ i % 2
 
 -- what the arithmetic of the height stays within
-pub record Small (start rise bend turn i : ℕ) : Type 0 where
-  pub falls : (1 + i) * (bend + i * turn) ≤ rise
-  pub most : start + i * (rise - i * (bend + i * turn)) < 2 ^ 56
+pub record Small (start rise bend i : ℕ) : Type 0 where
+  pub falls : i * bend ≤ rise
+  pub most : start + i * (rise - i * bend) < 2 ^ 55
 
--- the arc of the minutes from 32 k on
-pub record Right (start rise bend turn k : ℕ) : Type 0 where
-  pub small : (i : ℕ) → i ≤ 32 → 32 * k + i ≤ 5400 → Small start rise bend turn i
-  pub each : (i : ℕ) → i ≤ 32 → 32 * k + i ≤ 5400 → pos (height start rise bend turn i) ≡ entry (32 * k + i)
+-- the arc of the minutes from 16 k on
+pub record Right (start rise bend marks k : ℕ) : Type 0 where
+  pub small : (i : ℕ) → i ≤ 16 → 16 * k + i ≤ 5400 → Small start rise bend i
+  pub each : (i : ℕ) → i ≤ 16 → 16 * k + i ≤ 5400 → pos (height start rise bend marks i) ≡ entry (16 * k + i)

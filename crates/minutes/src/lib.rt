@@ -1,7 +1,7 @@
 // The paper's table of sines: the entry of any whole minute and the next, in units of the ninth decimal.
 //
 // The table is a constant of 5,401 numbers. A function that names it lays all of them on the stack, 2,700 instructions; so only `table` does, and whoever
-// wants two entries and was lent no table takes them from 169 arcs, each of which has the entries of 32 minutes.
+// wants two entries and was lent no table takes them from 338 arcs, each of which has the entries of 16 minutes.
 ghost use mathlib.Core.Path.{_≡_};
 ghost use Prim.Native.Nat.{_+_, _≤_, min};
 ghost use lib.IntN.{pos};
@@ -18,14 +18,14 @@ pub struct Pair {
     pub f: u32,
 }
 
-// i minutes behind the start of an arc, whose numbers have 2 ^ 24 parts to a unit.
+// i minutes behind the start of an arc, whose numbers have 2 ^ 24 parts to a unit: the whole units of the curve, and the entry's mark.
 fn height(arc: Arc, i: u64) -> u32
-    requires { ⌜ Small (arc .0) (arc .1) (arc .2) (arc .3) i ⌝ }
+    requires { ⌜ i ≤ 16 ⌝ }
+    requires { ⌜ Small (arc .0) (arc .1) (arc .2) i ⌝ }
     ensures { λ r. ⌜ r ≡ Arc·height (arc .0) (arc .1) (arc .2) (arc .3) i ⌝ }
 {
-    let fall = arc.2 + i * arc.3;
-    let slope = arc.1 - i * fall;
-    ((arc.0 + i * slope) / 16777216) as u32
+    let slope = arc.1 - i * arc.2;
+    ((arc.0 + i * slope) / 16777216 + (arc.3 >> i) % 2) as u32
 }
 
 // Behind 90 degrees there is none, and the last one stands for all.
@@ -40,8 +40,8 @@ pub fn pair_at(m: usize) -> Pair
             f: 1000000000,
         };
     }
-    let arc = arcs::at(m / 32);
-    let i = (m % 32) as u64;
+    let arc = arcs::at(m / 16);
+    let i = (m % 16) as u64;
     Pair {
         e: height(arc, i),
         f: height(arc, i + 1),

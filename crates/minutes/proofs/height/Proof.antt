@@ -4,12 +4,6 @@ use Rattle.minutes.specs.Inside.{height}
 use Rattle.minutes.proofs.height.Statement.{statement}
 use Rattle.minutes.proofs.height.Tie as tie
 
-mul-fall : tie.Need-mul-fall
-mul-fall c = search needs
-
-add-fall : tie.Need-add-fall
-add-fall c = search needs
-
 mul-slope : tie.Need-mul-slope
 mul-slope c = search needs
 
@@ -22,6 +16,12 @@ mul-result c = search needs
 add-result : tie.Need-add-result
 add-result c = search needs
 
+shr-result : tie.Need-shr-result
+shr-result c = search needs
+
+add-result-2 : tie.Need-add-result-2
+add-result-2 c = search needs
+
 cast-result : tie.Need-cast-result
 cast-result c = search needs
 
@@ -30,4 +30,5 @@ unfolding height
 returns c = search needs
 
 pub height-spec : {M : Type 1} → statement M
-height-spec = tie.close (tie.spec mul-fall add-fall mul-slope sub-slope mul-result add-result cast-result returns)
+height-spec =
+    tie.close (tie.spec mul-slope sub-slope mul-result add-result shr-result add-result-2 cast-result returns)

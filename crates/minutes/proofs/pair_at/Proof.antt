@@ -14,13 +14,13 @@ at-requires : tie.Need-at-requires
 at-requires c κs = search needs
 
 height-requires : tie.Need-height-requires
-height-requires c κs = c .at .ensures .small _ (omega arith) (omega arith)
+height-requires c κs = (search needs, c .at .ensures .small _ (omega arith) (omega arith))
 
 add-height : tie.Need-add-height
 add-height c = search needs
 
 height-requires-2 : tie.Need-height-requires-2
-height-requires-2 c κs = c .before .at .ensures .small _ (omega arith) (omega arith)
+height-requires-2 c κs = (search needs, c .before .at .ensures .small _ (omega arith) (omega arith))
 
 returns-2 : tie.Need-returns-2
 returns-2 c =

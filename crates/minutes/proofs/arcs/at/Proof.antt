@@ -1,5 +1,5 @@
 -- `at` meets its contract: each arc passes the test against its part of the table, which antt computes. The last one stands for every k that is no key
--- before it, and of these k ≤ 168 leaves 168.
+-- before it, and of these k ≤ 337 leaves 337.
 use native.Mathlib.Omega.{arith}
 use Rattle.whole.proofs.Branch.{past}
 use Rattle.minutes.specs.Inside.{height}
@@ -41,4 +41,33 @@ at-spec =
     (λ c. search arc-right) (λ c. search arc-right) (λ c. search arc-right) (λ c. search arc-right) (λ c. search arc-right) (λ c. search arc-right)
     (λ c. search arc-right) (λ c. search arc-right) (λ c. search arc-right) (λ c. search arc-right) (λ c. search arc-right) (λ c. search arc-right)
     (λ c. search arc-right) (λ c. search arc-right) (λ c. search arc-right) (λ c. search arc-right) (λ c. search arc-right) (λ c. search arc-right)
-    (λ c. arc-right _ _ _ _ (c .before .args .k) 168 (omega (arith, past 168 (c .before .args .k) (c .match .rest), c .before .pre)) tt))
+    (λ c. search arc-right) (λ c. search arc-right) (λ c. search arc-right) (λ c. search arc-right) (λ c. search arc-right) (λ c. search arc-right)
+    (λ c. search arc-right) (λ c. search arc-right) (λ c. search arc-right) (λ c. search arc-right) (λ c. search arc-right) (λ c. search arc-right)
+    (λ c. search arc-right) (λ c. search arc-right) (λ c. search arc-right) (λ c. search arc-right) (λ c. search arc-right) (λ c. search arc-right)
+    (λ c. search arc-right) (λ c. search arc-right) (λ c. search arc-right) (λ c. search arc-right) (λ c. search arc-right) (λ c. search arc-right)
+    (λ c. search arc-right) (λ c. search arc-right) (λ c. search arc-right) (λ c. search arc-right) (λ c. search arc-right) (λ c. search arc-right)
+    (λ c. search arc-right) (λ c. search arc-right) (λ c. search arc-right) (λ c. search arc-right) (λ c. search arc-right) (λ c. search arc-right)
+    (λ c. search arc-right) (λ c. search arc-right) (λ c. search arc-right) (λ c. search arc-right) (λ c. search arc-right) (λ c. search arc-right)
+    (λ c. search arc-right) (λ c. search arc-right) (λ c. search arc-right) (λ c. search arc-right) (λ c. search arc-right) (λ c. search arc-right)
+    (λ c. search arc-right) (λ c. search arc-right) (λ c. search arc-right) (λ c. search arc-right) (λ c. search arc-right) (λ c. search arc-right)
+    (λ c. search arc-right) (λ c. search arc-right) (λ c. search arc-right) (λ c. search arc-right) (λ c. search arc-right) (λ c. search arc-right)
+    (λ c. search arc-right) (λ c. search arc-right) (λ c. search arc-right) (λ c. search arc-right) (λ c. search arc-right) (λ c. search arc-right)
+    (λ c. search arc-right) (λ c. search arc-right) (λ c. search arc-right) (λ c. search arc-right) (λ c. search arc-right) (λ c. search arc-right)
+    (λ c. search arc-right) (λ c. search arc-right) (λ c. search arc-right) (λ c. search arc-right) (λ c. search arc-right) (λ c. search arc-right)
+    (λ c. search arc-right) (λ c. search arc-right) (λ c. search arc-right) (λ c. search arc-right) (λ c. search arc-right) (λ c. search arc-right)
+    (λ c. search arc-right) (λ c. search arc-right) (λ c. search arc-right) (λ c. search arc-right) (λ c. search arc-right) (λ c. search arc-right)
+    (λ c. search arc-right) (λ c. search arc-right) (λ c. search arc-right) (λ c. search arc-right) (λ c. search arc-right) (λ c. search arc-right)
+    (λ c. search arc-right) (λ c. search arc-right) (λ c. search arc-right) (λ c. search arc-right) (λ c. search arc-right) (λ c. search arc-right)
+    (λ c. search arc-right) (λ c. search arc-right) (λ c. search arc-right) (λ c. search arc-right) (λ c. search arc-right) (λ c. search arc-right)
+    (λ c. search arc-right) (λ c. search arc-right) (λ c. search arc-right) (λ c. search arc-right) (λ c. search arc-right) (λ c. search arc-right)
+    (λ c. search arc-right) (λ c. search arc-right) (λ c. search arc-right) (λ c. search arc-right) (λ c. search arc-right) (λ c. search arc-right)
+    (λ c. search arc-right) (λ c. search arc-right) (λ c. search arc-right) (λ c. search arc-right) (λ c. search arc-right) (λ c. search arc-right)
+    (λ c. search arc-right) (λ c. search arc-right) (λ c. search arc-right) (λ c. search arc-right) (λ c. search arc-right) (λ c. search arc-right)
+    (λ c. search arc-right) (λ c. search arc-right) (λ c. search arc-right) (λ c. search arc-right) (λ c. search arc-right) (λ c. search arc-right)
+    (λ c. search arc-right) (λ c. search arc-right) (λ c. search arc-right) (λ c. search arc-right) (λ c. search arc-right) (λ c. search arc-right)
+    (λ c. search arc-right) (λ c. search arc-right) (λ c. search arc-right) (λ c. search arc-right) (λ c. search arc-right) (λ c. search arc-right)
+    (λ c. search arc-right) (λ c. search arc-right) (λ c. search arc-right) (λ c. search arc-right) (λ c. search arc-right) (λ c. search arc-right)
+    (λ c. search arc-right) (λ c. search arc-right) (λ c. search arc-right) (λ c. search arc-right) (λ c. search arc-right) (λ c. search arc-right)
+    (λ c. search arc-right) (λ c. search arc-right) (λ c. search arc-right) (λ c. search arc-right) (λ c. search arc-right) (λ c. search arc-right)
+    (λ c. search arc-right)
+    (λ c. arc-right _ _ _ _ (c .before .args .k) 337 (omega (arith, past 337 (c .before .args .k) (c .match .rest), c .before .pre)) tt))
