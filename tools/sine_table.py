@@ -119,8 +119,8 @@ def arc(first, entries):
         starts = [PARTS * entry - climb(rise, bend, i) for i, entry in enumerate(entries)]
         least, most = max(0, max(starts) - PARTS), min(starts) + PARTS - 1
         if least <= most:
-            curve = (least + most) // 2, rise, bend
-            return *curve, sum((entry - below(curve, i)) << i for i, entry in enumerate(entries))
+            start = (least + most) // 2
+            return start, rise, bend, sum((entry - below((start, rise, bend), i)) << i for i, entry in enumerate(entries))
     sys.exit(f"no curve has all entries from minute {first} on")
 
 
