@@ -141,7 +141,7 @@ module _ (l : List ℕ) (at k n : ℕ) where
         let f : left ≡ 0 = omega arith in
         record { bytes = rw f at e; next = ap (λ (i : ℕ). at + i) (sym (digits-length k n)) }
 
-    -- two at a time, t holding the bytes of both; and the one that may be left
+    -- two at a time, t holding the bytes of both
     pub pair-next : (left t : ℕ) → t ≡ 48 + rest % 100 / 10 + 256 * (48 + rest % 100 % 10) → sets m at (digits left rest) ≡ sets l at (digits k n) → 1 < left
         → sets (set (set m (at + (left - 2) + 1) (t / 256 % 256)) (at + (left - 2)) (t % 256)) at (digits (left - 2) (rest / 100)) ≡ sets l at (digits k n)
     pair-next zero t f e h = absurd (omega arith)
@@ -155,9 +155,11 @@ module _ (l : List ℕ) (at k n : ℕ) where
         let place : at + j + 1 ≡ at + suc j = omega arith in
         rw (i, last, first, both, place) (sym (last-digit (set m (at + suc j) (48 + rest % 10)) at j (rest / 10)) ∙ sym (last-digit m at (suc j) rest) ∙ e)
 
+    -- the list is as long as it was, so the second of them has its place too
     pub second-within : (left v : ℕ) → left ≤ k → at + k ≤ length l → length m ≡ length l → 1 < left → at + (left - 2) < length (set m (at + (left - 2) + 1) v)
     second-within left v h i e g = omega (arith, length-set m (at + (left - 2) + 1) v)
 
+    -- and the one that may be left
     pub odd-last : (left : ℕ) → sets m at (digits left rest) ≡ sets l at (digits k n) → left ≤ 1 → (left ≡ 0 → ⊥) → Put l at (digits k n) (set m at (48 + rest % 10)) (at + k)
     unfolding digits
     odd-last left e h i =

@@ -84,7 +84,7 @@ pub fn put_digits(out: &mut [u8], at: usize, n: u64, k: usize) -> usize
     at + k
 }
 
-// The same of a number of 32 bits, two digits a turn: nearly every number of a sheet is one, and most of a sheet's cost is its digits.
+// The same of a number of 32 bits, two digits a turn: nearly every number of a sheet is one, and one by one they were two thirds of what its text costs.
 fn put_pairs(out: &mut [u8], at: usize, n: u32, k: usize) -> usize
     requires { ⌜ Room (now out) at (digits k n) ⌝ }
     ensures { λ r. ⌜ Put (now (out .entry)) at (digits k n) (now (out .exit)) r ⌝ }
