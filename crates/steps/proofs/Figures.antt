@@ -15,6 +15,7 @@ use Rattle.steps.specs.Distance.{seaLevel, combine, grid, seaLevelStep, 
 use Rattle.steps.specs.Azimuth.{turn, misclosure, closesAngles, misclosureStep, misclosureTest}
 use Rattle.steps.specs.Share.{share, shareStep}
 use Rattle.steps.specs.Course.{north, east, move, sineAlong, courseStep}
+use Rattle.steps.specs.Root.{digitTo, withPair, worked}
 use Rattle.steps.specs.Closure.{closes, root, precision, closureTest, precisionStep}
 use Rattle.steps.specs.Area.{cross, nextStation, doubledTo, small, areaStep}
 
@@ -79,3 +80,9 @@ marked-hold = refl
 pub others-hold : Hold others
 unfolding others turn misclosure closesAngles inside closes root precision cross nextStation doubledTo small sumTo
 others-hold = refl
+
+-- the two roots of docs/ROOT.md, worked by the definition of the method: root and remainder
+pub roots-worked : (worked 9 159921895 ≡ record { root = 12646; remainder = 579 })
+    × (worked 9 32000480001 ≡ record { root = 178886; remainder = 279005 })
+unfolding worked withPair digitTo
+roots-worked = (refl, refl)

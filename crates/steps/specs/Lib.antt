@@ -3,4 +3,5 @@ pub mod Azimuth
 pub mod Closure
 pub mod Course
 pub mod Distance
+pub mod Root
 pub mod Share

@@ -1,4 +1,5 @@
 // The closure test and the precision number. Closures are in hundredths, the sum s of grid distances in thousandths of a foot.
+use crate::root;
 use answer::Count;
 use answer::Verdict;
 use whole::Whole;
@@ -39,42 +40,6 @@ pub fn closes(north: Whole, east: Whole, s: u64) -> Verdict
     Verdict::Fails
 }
 
-// At most ten times the closure whose sides these are, and short of it by a nineteenth or less: ten times the longer side, or, as in the triangle of 3, 4
-// and 5, eight times the longer and six times the shorter.
-fn ten_by_sides(longer: u64, shorter: u64) -> u64
-    requires { ⌜ (shorter ≤ longer) × (longer ≤ 26000) ⌝ }
-    ensures { λ r. ⌜ (longer * longer + shorter * shorter ≤ r * r) × (r * r ≤ 100 * (longer * longer + shorter * shorter)) ⌝ }
-{
-    if longer < 3 * shorter {
-        return 8 * longer + 6 * shorter;
-    }
-    10 * longer
-}
-
-fn ten_closures(n: u64, e: u64) -> u64
-    requires { ⌜ (n ≤ 26000) × (e ≤ 26000) ⌝ }
-    ensures { λ r. ⌜ (n * n + e * e ≤ r * r) × (r * r ≤ 100 * (n * n + e * e)) ⌝ }
-{
-    if n < e {
-        return ten_by_sides(e, n);
-    }
-    ten_by_sides(n, e)
-}
-
-// The largest r with r * r <= x, by Newton's rule from a number that is not below it: while the square is too large, the mean of r and x / r is nearer, and
-// not below the root either. Mostly two turns, where halving takes one for each binary digit.
-fn whole_root(x: u64, most: u64) -> u64
-    requires { ⌜ most ≤ 1300000000 ⌝ }
-    requires { ⌜ x < (most + 1) * (most + 1) ⌝ }
-    ensures { λ r. ⌜ (r * r ≤ x) × (x < (r + 1) * (r + 1)) ⌝ }
-{
-    let mut r = most;
-    while x < r * r {
-        r = (r + x / r) / 2;
-    }
-    r
-}
-
 // The precision number: 1 in so many parts of the distance.
 pub fn precision(north: Whole, east: Whole, s: u64) -> Count
     ensures { λ r. ⌜ toldCount r ≡ precisionStep (north .v) (east .v) s ⌝ }
@@ -97,5 +62,5 @@ pub fn precision(north: Whole, east: Whole, s: u64) -> Count
     if both == 0 {
         return Count::Is(0);
     }
-    Count::Is(whole_root(s * s / (100 * both), s / ten_closures(n, e)))
+    Count::Is(root::whole_root(s * s / (100 * both)))
 }

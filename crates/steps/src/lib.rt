@@ -5,4 +5,5 @@ pub mod azimuth;
 pub mod closure;
 pub mod course;
 pub mod distance;
+mod root;
 pub mod share;

@@ -1,9 +1,9 @@
 -- `precision` meets its contract: P is the whole root of the quotient, since P squared times the divisor is at most S squared just where P squared is at
--- most the quotient. The search for it starts at S over at most ten closures, which is not below it.
+-- most the quotient.
 use borrow.Author.Needs.{needs}
 use Rattle.answer.proofs.Telling.{ranges}
 use Rattle.steps.proofs.Laws.{square-fits}
-use Rattle.steps.proofs.Rooting.{hundred-fits, some-closures, start-small, start-above, no-closure, some-closure}
+use Rattle.steps.proofs.Rooting.{hundred-fits, few-pairs, no-closure, some-closure}
 use Rattle.steps.proofs.closure.precision.Statement.{statement}
 use Rattle.steps.proofs.closure.precision.Tie as tie
 
@@ -40,14 +40,8 @@ mul-whole-root-2 c = search hundred-fits
 div-whole-root : tie.Need-div-whole-root
 div-whole-root c = search needs
 
-ten-closures-requires : tie.Need-ten-closures-requires
-ten-closures-requires c κs = search needs
-
-div-whole-root-2 : tie.Need-div-whole-root-2
-div-whole-root-2 c = search some-closures
-
 whole-root-requires : tie.Need-whole-root-requires
-whole-root-requires c κs = (search start-small, search start-above)
+whole-root-requires c κs = search few-pairs
 
 returns-6 : tie.Need-returns-6
 returns-6 c = search (some-closure, ranges) depth 9
@@ -67,7 +61,5 @@ precision-spec =
     mul-whole-root
     mul-whole-root-2
     div-whole-root
-    ten-closures-requires
-    div-whole-root-2
     whole-root-requires
     returns-6)

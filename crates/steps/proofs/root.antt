@@ -1,0 +1,2 @@
+-- The laws of the root by digits.
+pub mod ByDigits
