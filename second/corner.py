@@ -10,24 +10,22 @@ says where docs/CORNER.md or docs/corner.svg is not what is made here, and `writ
 makes both so.
 """
 
-import re
 import sys
 from fractions import Fraction
 from functools import lru_cache
 from math import ceil
-from pathlib import Path
 from random import Random
-from typing import Callable, Iterator, NamedTuple, Sequence
+from typing import Iterator, NamedTuple, Sequence
 
 from . import desk, documents, drawing, tapes
+from .page import DOCS, Sections, all_filled, markdown, read, stale
 from .ranges import CIRCLE, HALF_CIRCLE, LEGS
 from .sheet import plain, signed
 from .tape import Close, Fields, Leg, Project, Row, Start, read_tape, write_tape
 from .unrounded import bound, unrounded
 
-ROOT = Path(__file__).resolve().parent.parent
-PAGE = ROOT / "docs" / "CORNER.md"
-PICTURE = ROOT / "docs" / "corner.svg"
+PAGE = DOCS / "CORNER.md"
+PICTURE = DOCS / "corner.svg"
 
 WORKED = "wanda_mason"
 SIZES = (4, 8, 16, 32, 64)
@@ -88,12 +86,6 @@ def away(amount: Fraction, decimals: int) -> int:
 def off(amount: Fraction) -> str:
     """How far a coordinate is off, with its sign; a bare 0 only where it is nothing."""
     return signed(away(amount, DECIMALS), DECIMALS) if amount else "0"
-
-
-def markdown(head: Sequence[str], rows: Sequence[Sequence[str]]) -> str:
-    """A table; names stand left, figures right."""
-    rule = ["---", *["---:"] * (len(head) - 1)]
-    return "".join(f"| {' | '.join(cells)} |\n" for cells in (head, rule, *rows))
 
 
 def table() -> str:
@@ -250,41 +242,16 @@ def plot() -> str:
 # The page
 
 
-SECTIONS: dict[str, Callable[[], str]] = {"table": table, "worked": worked}
-
-
-def filled(page: str, name: str, made: str) -> str:
-    """The page with its one section of this name made anew.
-
-    Empty lines keep the marks out of the table in every reader of Markdown.
-    """
-    opening, closing = f"<!-- made by python3 -m second.corner {name} -->\n", "<!-- end -->\n"
-    section = re.escape(opening) + "(?:(?!<!--).)*" + re.escape(closing)
-    page, found = re.subn(section, lambda _: f"{opening}\n{made}\n{closing}", page, flags=re.DOTALL)
-    if found != 1:
-        raise ValueError(f"{found} sections marked as made by python3 -m second.corner {name}, wanted 1")
-    return page
+MAKER = "second.corner"
+SECTIONS: Sections = {"table": table, "worked": worked}
 
 
 def differences(page: str, picture: str) -> list[str]:
     """What is wrong with a page and its picture, a line for each fault."""
-    faults = []
-    for name, make in SECTIONS.items():
-        try:
-            same = filled(page, name, make()) == page
-        except ValueError as fault:
-            faults.append(f"docs/CORNER.md: {fault}")
-        else:
-            if not same:
-                faults.append(f"docs/CORNER.md: not what python3 -m second.corner {name} makes")
+    faults = stale(page, "docs/CORNER.md", MAKER, SECTIONS)
     if picture != plot():
         faults.append("docs/corner.svg: not what python3 -m second.corner plot makes")
     return faults
-
-
-def read(path: Path) -> str:
-    """The text of a file; nothing where there is none, which then differs from all that is made."""
-    return path.read_text(encoding="utf-8") if path.exists() else ""
 
 
 def check() -> None:
@@ -296,10 +263,7 @@ def check() -> None:
 
 def write() -> None:
     """Put what is made here into the page, and the picture beside it."""
-    page = read(PAGE)
-    for name, make in SECTIONS.items():
-        page = filled(page, name, make())
-    PAGE.write_text(page, encoding="utf-8")
+    PAGE.write_text(all_filled(read(PAGE), MAKER, SECTIONS), encoding="utf-8")
     PICTURE.write_text(plot(), encoding="utf-8")
 
 

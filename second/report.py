@@ -8,18 +8,17 @@ docs/DOCUMENTS.md is not what is made here.
 import sys
 from functools import lru_cache
 from itertools import zip_longest
-from pathlib import Path
 from typing import Callable, Iterator, Sequence
 
 from . import documents, printed_steps, printed_traverses
-from .corner import markdown, read
 from .desk import combined_factor
 from .documents import Worked
 from .figures import Figure, Kind, Tally, by_kind, differing, tally
+from .page import DOCS, markdown, read
 from .steps import FACTOR_ONE
 from .tape import Fields
 
-PAGE = Path(__file__).resolve().parent.parent / "docs" / "DOCUMENTS.md"
+PAGE = DOCS / "DOCUMENTS.md"
 
 INTRODUCTION = """\
 The manuals behind the rules work out traverses and single steps by hand. Those that were brought into

@@ -6,10 +6,9 @@ stated with it; none leans on its caller. The two tests answer 1 for passed and
 """
 
 from fractions import Fraction
-from math import isqrt
 from typing import NamedTuple, Sequence
 
-from . import sines
+from . import root, sines
 from .ranges import (
     ANGLE, CIRCLE, COMBINED, DISTANCE, ELEVATION, FACTOR, GRID_DISTANCE, HALF_CIRCLE, LEGS,
     MISCLOSURE, OFFSET, PASSED_CLOSURE, Range, STATIONS, TESTED_CLOSURE, TOTAL,
@@ -181,7 +180,7 @@ def precision_number(north: int, east: int, total: int) -> Answer:
     if not (PASSED_CLOSURE.holds(north) and PASSED_CLOSURE.holds(east) and TOTAL.holds(total)):
         return REFUSED
     length_squared = 100 * (north**2 + east**2)
-    return answered(isqrt(total**2 // length_squared) if length_squared else 0)
+    return answered(root.whole_root(total**2 // length_squared) if length_squared else 0)
 
 
 def doubled_area(words: Sequence[int]) -> Answer:
