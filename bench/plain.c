@@ -1,6 +1,5 @@
 #include "plain.h"
 
-#include <math.h>
 #include <stdbool.h>
 #include <string.h>
 
@@ -275,12 +274,23 @@ static int32_t carry(const struct survey *s, uint32_t azimuth[MOST_LEGS]) {
     return w > HALF_CIRCLE ? w - CIRCLE : w <= -HALF_CIRCLE ? w + CIRCLE : w;
 }
 
+/* The root as a clerk takes it: pairs of digits are brought down from the left, and each gives one digit. The divisor,
+ * 20 roots, goes into the rest as often as the digit or more, so that this often is tried first. */
 static uint64_t square_root(uint64_t amount) {
-    uint64_t root = (uint64_t)sqrt((double)amount); /* off by one at most: a double holds 53 bits */
-    while (root * root > amount)
-        root--;
-    while ((root + 1) * (root + 1) <= amount)
-        root++;
+    const uint64_t first = 10000000000000000; /* one unit of the first of nine pairs */
+    uint64_t root = 0, rest = 0;
+    unsigned pairs = 9;
+    for (; pairs > 1 && amount < first; pairs--)
+        amount *= 100;
+    for (; pairs > 0; pairs--) {
+        rest = 100 * rest + amount / first;
+        amount = amount % first * 100;
+        uint64_t digit = rest < 200 * root ? rest / (20 * root) : 9;
+        while ((20 * root + digit) * digit > rest)
+            digit--;
+        rest -= (20 * root + digit) * digit;
+        root = 10 * root + digit;
+    }
     return root;
 }
 
