@@ -10,18 +10,10 @@ use lib.Dec.{leb, lit<}
 use lib.IntN.{ℤ, natAbs}
 use mir.Syntax.{w64}
 use mir.Val.{Fits}
-use Rattle.steps.proofs.Laws.{product-most, square-most}
+use Rattle.steps.proofs.Laws.{product-most, square-most, below-root}
 use Rattle.steps.specs.Closure.{squares, closes, Precision, root, precision}
 use Rattle.steps.specs.Root.{WholeRoot, worked}
 use Rattle.steps.proofs.root.ByDigits.{worked-is}
-
--- a square that is at most another's successor's has no larger root
-below-root : (x r k : ℕ) → k * k ≤ x → x < (r + 1) * (r + 1) → k ≤ r
-below-root x r k h i =
-    elim (decLe k r) [
-      | yes j ↦ j
-      | no j ↦ absurd (let m : (r + 1) * (r + 1) ≤ k * k = product-most (r + 1) (r + 1) k k (omega arith) (omega arith) in omega arith)
-    ]
 
 pub root-unique : (x r q : ℕ) → WholeRoot x r → WholeRoot x q → r ≡ q
 root-unique x r q h k = le-antisymm (below-root x q r (h .0) (k .1)) (below-root x r q (k .0) (h .1))

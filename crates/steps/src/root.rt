@@ -6,8 +6,10 @@ ghost use Prim.Native.Nat.{_-_, _*_, _^_, _<_, _≤_};
 ghost use Rattle.steps.specs.Root.{WholeRoot, NoneAbove, digit as Root·digit};
 ghost use Rattle.steps.specs.Root.{withPair, worked as Root·worked};
 
-// What one unit of the first of nine pairs counts. The numbers whose root is taken, S squared over
-// 100 or more, have at most nine pairs.
+// The most pairs of a number whose root is taken: it is S squared over 100 or more.
+const PAIRS: u64 = 9;
+
+// What one unit of the first of nine pairs counts.
 const FIRST: u64 = 10_000_000_000_000_000;
 
 // The working on paper: the root found so far, and the remainder.
@@ -69,7 +71,7 @@ fn set_off(x: u64) -> Pairs
     ensures moved { λ r. ⌜ r .number ≡ x * 100 ^ (9 - r .left) ⌝ }
 {
     let mut number = x;
-    let mut left: u64 = 9;
+    let mut left = PAIRS;
     while 0 < left {
         if FIRST <= number {
             return Pairs { number, left };

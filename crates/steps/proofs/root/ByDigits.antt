@@ -9,7 +9,7 @@ use native.Mathlib.Omega.{arith}
 use borrow.Author.Tests.{le-leb, lt-leb}
 use mir.Syntax.{w64}
 use mir.Val.{Fits}
-use Rattle.steps.proofs.Laws.{product-most}
+use Rattle.steps.proofs.Laws.{product-most, below-root}
 use Rattle.steps.specs.declared.root.Working.{Working}
 use Rattle.steps.specs.Root.{WholeRoot, takes, NoneAbove, NextDigit, digitTo, digit}
 use Rattle.steps.specs.Root.{withPair, worked}
@@ -207,14 +207,10 @@ module _ (x number left : ℕ) (w : Working) (b : Brought x number left w) where
 
   pub brought-root : w .root < 10 ^ 9
   brought-root =
-      let r = w .root in
       let s = front-of in
-      let f = front-below in
       let few = pow-le-pow-right {n = 100} (omega arith) {i = 9 - left} {j = 9} (omega arith) in
-      elim (decLe (10 ^ 9) r) [
-        | yes i ↦ absurd (omega (arith, product-most (10 ^ 9) (10 ^ 9) r r i i))
-        | no i ↦ omega arith
-      ]
+      let f : b .front < 10 ^ 9 * 10 ^ 9 = omega (arith, front-below) in
+      omega (arith, below-root (b .front) (10 ^ 9 - 1) (w .root) (omega arith) f)
 
   pub brought-remainder : w .remainder ≤ 2 * 10 ^ 9
   brought-remainder = let s = front-of in let r = brought-root in omega arith
