@@ -6,7 +6,7 @@ ghost use Prim.Native.Nat.{_-_, _*_, _^_, _<_, _≤_};
 ghost use Rattle.steps.specs.Root.{WholeRoot, NoneAbove, digit as Root·digit};
 ghost use Rattle.steps.specs.Root.{withPair, worked as Root·worked};
 
-// The most pairs of a number whose root is taken: it is S squared over 100 or more.
+// A number whose root is taken is S squared over 100 or more, so it has at most nine pairs.
 const PAIRS: u64 = 9;
 
 // What one unit of the first of nine pairs counts.
@@ -64,7 +64,7 @@ fn with_pair(w: Working, pair: u64) -> Working
     }
 }
 
-// A number set off in pairs. The pairs of zeros in front of nine give no digit and are passed over.
+// A number set off in nine pairs. The pairs of zeros in front give no digit and are passed over.
 fn set_off(x: u64) -> Pairs
     requires { ⌜ x < 100 ^ 9 ⌝ }
     ensures nine { λ r. ⌜ (r .left ≤ 9) × (r .number < 100 ^ 9) ⌝ }

@@ -26,27 +26,28 @@ below root m d e h i =
     ]
 
 module _ (root m : ℕ) where
-  -- of the digits up to k that fit, d is the largest
-  abbrev Largest : ℕ → ℕ → Type 0
-  Largest k d = (d ≤ k) × (takes root d ≤ m) × ((e : ℕ) → e ≤ k → takes root e ≤ m → e ≤ d)
+  pub one-less : (d : ℕ) → NoneAbove root m d → m < takes root d → NoneAbove root m (d - 1)
+  one-less d a h =
+      record {
+        figure = omega (arith, a .figure);
+        above = λ e i j. omega (arith, below root m d e j h);
+      }
 
-  digit-to : (k : ℕ) → Largest k (digitTo k root m)
+  -- downwards from a digit above which none fits, the first that fits is the next digit
+  digit-from : (d : ℕ) → NoneAbove root m d → NextDigit root m (digitTo d root m)
   unfolding digitTo
-  digit-to zero = (omega arith, omega arith, λ e h i. h)
-  digit-to (suc k) =
-      elim (decLe (takes root (suc k)) m) [
-        | yes i ↦ rw (le-leb (takes root (suc k)) m i) (omega arith, i, λ e h j. h)
+  digit-from zero a = record { fits = omega arith; largest = a }
+  digit-from (suc d) a =
+      let e : suc d - 1 ≡ d = omega arith in
+      elim (decLe (takes root (suc d)) m) [
+        | yes i ↦ rw (le-leb (takes root (suc d)) m i) (record { fits = i; largest = a })
         | no i ↦
-            let t = digit-to k in
-            let l : m < takes root (suc k) = omega arith in
-            rw (lt-leb (takes root (suc k)) m l)
-            (omega arith, t .1, λ e h j. t .2 e (omega (arith, below root m (suc k) e j l)) j)
+            let l : m < takes root (suc d) = omega arith in
+            rw (lt-leb (takes root (suc d)) m l) (digit-from d (rw e at (one-less (suc d) a l)))
       ]
 
   pub digit-is : NextDigit root m (digit root m)
-  digit-is =
-      let t = digit-to 9 in
-      record { fits = t .1; largest = record { figure = t .0; above = t .2 } }
+  digit-is = digit-from 9 (record { figure = omega arith; above = λ e h i. h })
 
   pub digit-unique : (d e : ℕ) → NextDigit root m d → NextDigit root m e → d ≡ e
   digit-unique d e h k =
@@ -54,7 +55,7 @@ module _ (root m : ℕ) where
       let j = k .largest in
       le-antisymm (j .above d (i .figure) (h .fits)) (i .above e (j .figure) (k .fits))
 
-  -- ---- as the code finds it, downwards from a digit above which none fits
+  -- ---- as the code finds it, downwards from the trial digit
   -- a digit that fits goes into m with the trial divisor alone
   pub trial-divisor : m < 10 * (20 * root) → NoneAbove root m (m / (20 * root))
   trial-divisor h =
@@ -62,13 +63,6 @@ module _ (root m : ℕ) where
       record {
         figure = omega arith;
         above = λ e i j. le-div-iff-mul-le {k = 20 * root} (omega arith) .1 (omega arith);
-      }
-
-  pub one-less : (d : ℕ) → NoneAbove root m d → m < takes root d → NoneAbove root m (d - 1)
-  one-less d a h =
-      record {
-        figure = omega (arith, a .figure);
-        above = λ e i j. omega (arith, below root m d e j h);
       }
 
   pub digit-found : (d : ℕ) → NoneAbove root m d → takes root d ≤ m → d ≡ digit root m
