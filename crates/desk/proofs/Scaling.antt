@@ -1,5 +1,5 @@
--- The combined factor: over the elevations of the tape the sea level factor stays within a thousandth of 1, and so does the row's, so their sum less
--- 1 is within the range that the distance step takes.
+-- The combined factor: over the elevations of the tape the sea level factor stays within a thousandth
+-- of 1, and so does the row's, so their product is within the range that the distance step takes.
 use Prim.Native.Nat.{ℕ, suc, _+_, _-_, _*_, _≤_, _<_}
 use native.Mathlib.Omega.{arith}
 use native.Mathlib.Decide.{decLe}
@@ -18,6 +18,7 @@ use Rattle.answer.specs.Told.{toldCount}
 use Rattle.answer.proofs.Telling.{value-given, both, inside-yes}
 use Rattle.whole.specs.declared.Whole.{Whole}
 use Rattle.steps.specs.Distance.{seaLevel, combine, seaLevelStep, combineStep}
+use Rattle.steps.proofs.Laws.{product-most}
 use Rattle.desk.specs.Inside.{frameOf}
 use Rattle.tape.specs.declared.Control.{Control}
 
@@ -43,7 +44,10 @@ sea-range (negsuc n) h =
 combined-most : (sea scale : ℕ) → 9990000 ≤ sea → sea ≤ 10010000 → 9990000 ≤ scale → scale ≤ 10010000
     → (9980000 ≤ combine sea scale) × (combine sea scale ≤ 10020010)
 unfolding combine
-combined-most sea scale low high least most = (omega arith, omega arith)
+combined-most sea scale low high least most = (
+  omega (arith, product-most 9990000 9990000 sea scale low least),
+  omega (arith, product-most sea scale 10010000 10010000 high most),
+)
 
 pub combined-range : (z : ℤ) (scale : ℕ) → (leZ (negℤ (pos 1000)) z && leZ z (pos 20000)) ≡ true → 9990000 ≤ scale → scale ≤ 10010000
     → (9980000 ≤ combine (seaLevel z) scale) × (combine (seaLevel z) scale ≤ 10020010)
@@ -62,14 +66,14 @@ module _ (r : Count) (n : ℕ) (z : ℤ) (good : (leZ (negℤ (pos 1000)) z && l
 
 module _ (r : Count) (n sea scale : ℕ) (low : 9990000 ≤ sea) (high : sea ≤ 10010000) (least : 9990000 ≤ scale) (most : scale ≤ 10010000)
     (t : toldCount r ≡ combineStep sea scale) (f : pos n ≡ toldCount r .value) where
-  combined-sum : n ≡ combine sea scale
-  combined-sum = ap natAbs (f ∙ value-given (toldCount r) _ _ t (both _ _ (inside-yes 9990000 10010000 sea low high) (inside-yes 9990000 10010000 scale least most)))
+  combined-told : n ≡ combine sea scale
+  combined-told = ap natAbs (f ∙ value-given (toldCount r) _ _ t (both _ _ (inside-yes 9990000 10010000 sea low high) (inside-yes 9990000 10010000 scale least most)))
 
   pub combined-is : (z : ℤ) → sea ≡ seaLevel z → n ≡ combine (seaLevel z) scale
-  combined-is z e = rw (← e) combined-sum
+  combined-is z e = rw (← e) combined-told
 
   pub combined-high : n < 10020011
-  combined-high = let m = combined-most sea scale low high least most in rw combined-sum (omega (arith, m .1))
+  combined-high = let m = combined-most sea scale low high least most in rw combined-told (omega (arith, m .1))
 
 -- ---- the factor in its place
 pub frame-is : (c : Control) (w : Whole) (n : ℕ) → n ≡ combine (seaLevel (c .elevation .v)) (c .scale)

@@ -45,7 +45,7 @@ pub record Balanced : Type 0 where
   pub to : Point
   pub place : ℕ
 
--- that of the fields; "Combined factor: their sum less 10,000,000", the sea level factor and that of the row
+-- that of the fields; its factor is the sea level factor of the elevation and that of the row, combined
 unfoldable pub balancedTraverse : Fields → Balanced
 balancedTraverse f =
     record {

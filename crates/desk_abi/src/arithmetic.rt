@@ -20,7 +20,7 @@ pub extern "C" fn vas_sea_level(elevation: i64, value: &mut u64) -> u32
     tell::count(steps::distance::sea_level(Whole { v: elevation }), value)
 }
 
-// The combined factor of a sea level factor and a scale factor.
+// The combined factor of a sea level factor and a scale factor, the product of the two.
 #[no_mangle]
 pub extern "C" fn vas_combine(sea: u64, scale: u64, value: &mut u64) -> u32
     ensures { λ r. ⌜ TellsCount (combineStep sea scale) (now (value .exit)) r ⌝ }

@@ -1,15 +1,17 @@
--- The sea level factor by the sign of the elevation, which is how the code goes.
+-- The sea level factor by the sign of the elevation, which is how the code goes, and the combined
+-- factor as the property of the rules has it.
 use mathlib.Core.Path.{_≡_, sym, _∙_, ap}
 use mathlib.Core.Bool.{Bool, true, false, _&&_}
-use Prim.Native.Nat.{ℕ, suc, _+_, _-_, _≤_, _<_}
+use Prim.Native.Nat.{ℕ, suc, _+_, _-_, _*_, _≤_, _<_}
 use native.Mathlib.Omega.{arith}
 use borrow.Author.Tests.{le-leb, lt-leb}
 use lib.IntN.{ℤ, pos, negsuc, negℤ, natAbs, _+ℤ_}
 use lib.Signed.{ltZ, leZ}
-use Rattle.whole.specs.Nearest.{halfUp}
+use Rattle.whole.specs.Nearest.{Nearest, nearest, halfUp}
 use Rattle.whole.proofs.Diff.{ints, same}
 use Rattle.whole.proofs.Machine.{sign-below, sign-above, range-below, range-above}
-use Rattle.steps.specs.Distance.{seaLevel}
+use Rattle.whole.proofs.Rounding.{nearest-is, nearest-unique}
+use Rattle.steps.specs.Distance.{seaLevel, combine}
 
 -- -1,000..20,000
 abbrev good : ℤ → Bool
@@ -46,3 +48,13 @@ module _ (e : ℤ) (feet : ℕ) (below : Bool) (f : feet ≡ natAbs e) (b : belo
     pub sea-above : (r : ℕ) → r ≡ halfUp 209060000000000 (20906000 + feet) → r ≡ seaLevel e
     unfolding seaLevel
     sea-above r i = i ∙ ap (halfUp 209060000000000) (rw (u .1) (omega (arith, f ∙ ap natAbs (u .1))))
+
+-- ---- the combined factor is the nearest ten-millionth of the product, and nothing else is
+module _ (sea scale : ℕ) where
+  pub combine-is : Nearest (pos (sea * scale)) 10000000 (pos (combine sea scale))
+  unfolding combine nearest
+  combine-is = nearest-is (pos (sea * scale)) 10000000 (omega arith)
+
+  pub combine-unique : (q : ℤ) → Nearest (pos (sea * scale)) 10000000 q → q ≡ pos (combine sea scale)
+  unfolding combine nearest
+  combine-unique q = nearest-unique (pos (sea * scale)) 10000000 q (omega arith)

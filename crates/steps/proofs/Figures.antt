@@ -1,5 +1,7 @@
--- Paper 01, "Figures on both sides": what the written rules give is what the paper prints. The cases marked P are one claim over one list, `marked`;
--- the other figures of the steps stand in `others`. Both are computed by antt from the definitions. A further case is one line.
+-- Paper 01, "Figures on both sides": what the written rules give is what the paper prints. The
+-- cases marked P are one claim over one list, `marked`; the other figures of the steps stand in
+-- `others`, those of paper 02, b in `products`. All are computed by antt from the definitions. A
+-- further case is one line.
 use mathlib.Core.Path.{_≡_, refl}
 use mathlib.Core.List.{List, [], _∷_, map}
 use Prim.Native.Nat.{ℕ, _+_, _*_}
@@ -70,6 +72,15 @@ others =
     ∷ fig (areaStep (pos 0 ∷ pos 0 ∷ pos 100000 ∷ pos 0 ∷ pos 100001 ∷ pos 100001 ∷ pos 0 ∷ pos 100000 ∷ [])) (pos 20000200000)
     ∷ []
 
+-- paper 02, b: the client's yard at 7,000 feet, and the two products that document 002 works out
+pub products : List Figure
+products =
+    fig (seaLevelStep (pos 7000)) (pos 9996653)
+    ∷ fig (combineStep 9996653 10001989) (pos 9998641)
+    ∷ fig (combineStep 9999066 9999407) (pos 9998473)
+    ∷ fig (combineStep 9999409 9999750) (pos 9999159)
+    ∷ []
+
 abbrev Hold : List Figure → Type 0
 Hold figures = map (λ (f : Figure). f .rule) figures ≡ map (λ (f : Figure). given (f .paper)) figures
 
@@ -80,6 +91,10 @@ marked-hold = refl
 pub others-hold : Hold others
 unfolding others turn misclosure closesAngles inside closes root precision cross nextStation doubledTo small sumTo
 others-hold = refl
+
+pub products-hold : Hold products
+unfolding products seaLevel combine inside
+products-hold = refl
 
 -- the two roots of docs/ROOT.md, worked by the definition of the method: root and remainder
 pub roots-worked : (worked 9 159921895 ≡ record { root = 12646; remainder = 579 })

@@ -1,6 +1,6 @@
 -- Paper 01, "Distances": from a measured distance to a grid distance. Factors are in ten-millionths, distances in thousandths of a foot.
 use mathlib.Core.Bool.{_&&_}
-use Prim.Native.Nat.{ℕ, _+_, _-_, _*_}
+use Prim.Native.Nat.{ℕ, _*_}
 use lib.IntN.{ℤ, pos, negℤ, natAbs, _+ℤ_}
 use lib.Signed.{leZ}
 use Rattle.whole.specs.Nearest.{halfUp}
@@ -10,9 +10,9 @@ use Rattle.answer.specs.Told.{Told, inRange, inside}
 unfoldable pub seaLevel : ℤ → ℕ
 seaLevel elevation = halfUp (20906000 * 10000000) (natAbs (pos 20906000 +ℤ elevation))
 
--- "Combined factor: their sum less 10,000,000"
+-- "the combined factor becomes the nearest ten-millionth of the product" (paper 02, b)
 unfoldable pub combine : ℕ → ℕ → ℕ
-combine sea scale = sea + scale - 10000000
+combine sea scale = halfUp (sea * scale) 10000000
 
 -- "distance x combined / 10,000,000, nearest"
 unfoldable pub grid : ℕ → ℕ → ℕ

@@ -22,7 +22,7 @@ pub fn sea_level(elevation: Whole) -> Count
     Count::Is(whole::half_up(209060000000000, 20906000 + feet))
 }
 
-// The sea level factor and the row's scale factor together.
+// The sea level factor and the row's scale factor in one: their product.
 pub fn combine(sea: u64, scale: u64) -> Count
     ensures { λ r. ⌜ toldCount r ≡ combineStep sea scale ⌝ }
 {
@@ -38,7 +38,7 @@ pub fn combine(sea: u64, scale: u64) -> Count
     if 10010000 < scale {
         return Count::OutOfRange;
     }
-    Count::Is(sea + scale - 10000000)
+    Count::Is(whole::half_up(sea * scale, 10000000))
 }
 
 // The grid distance of a measured one.

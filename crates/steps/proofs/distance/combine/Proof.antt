@@ -1,7 +1,10 @@
--- `combine` meets its contract: each test is a bound of the range, and between them the sum is well above what is taken off.
-use borrow.Author.Needs.{needs}
+-- `combine` meets its contract: each test is a bound of the range, and in range the product is far
+-- below 2 ^ 63.
+use Prim.Native.Nat.{_*_, _≤_}
+use native.Mathlib.Omega.{arith}
 use Rattle.answer.proofs.Telling.{ranges}
 use Rattle.steps.specs.Distance.{combine}
+use Rattle.steps.proofs.Laws.{product-most}
 use Rattle.steps.proofs.distance.combine.Statement.{statement}
 use Rattle.steps.proofs.distance.combine.Tie as tie
 
@@ -17,15 +20,26 @@ returns-3 c = search ranges depth 8
 returns-4 : tie.Need-returns-4
 returns-4 c = search ranges depth 8
 
-add-t4 : tie.Need-add-t4
-add-t4 c = search needs
+abbrev start : tie.Else4 → tie.Start
+start c = c .before .before .before .before
 
-sub-t5 : tie.Need-sub-t5
-sub-t5 c = search needs
+-- the largest sea level factor times the largest scale factor
+most : (c : tie.Else4) → start c .args .sea * start c .args .scale ≤ 10010000 * 10010000
+most c =
+    let args = start c .args in
+    product-most (args .sea) (args .scale) 10010000 10010000 (omega arith) (omega arith)
+
+mul-half-up : tie.Need-mul-half-up
+mul-half-up c = record { fits = omega (arith, most c) }
+
+half-up-requires : tie.Need-half-up-requires
+half-up-requires c κs = omega (arith, most c)
 
 returns-5 : tie.Need-returns-5
 unfolding combine
 returns-5 c = search ranges depth 8
 
 pub combine-spec : {M : Type 1} → statement M
-combine-spec = tie.close (tie.spec returns returns-2 returns-3 returns-4 add-t4 sub-t5 returns-5)
+combine-spec =
+    tie.close
+    (tie.spec returns returns-2 returns-3 returns-4 mul-half-up half-up-requires returns-5)
