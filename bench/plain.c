@@ -231,7 +231,7 @@ static int64_t share(int64_t closure, uint64_t part, uint64_t whole) {
 static uint64_t combined_factor(const struct survey *s) {
     uint64_t radius = 20906000;
     uint64_t sea_level = nearest(radius * 10000000, radius + (uint64_t)s->elevation);
-    return sea_level + s->scale - 10000000;
+    return nearest(sea_level * s->scale, 10000000);
 }
 
 /* The sine of an angle of the first quadrant. */

@@ -55,7 +55,8 @@ enum {
 /* The sea level factor of a mean elevation of -1000..20000 feet. */
 uint32_t vas_sea_level(int64_t elevation, uint64_t *value);
 
-/* The combined factor of a sea level factor and a scale factor, each 9990000..10010000. */
+/* The combined factor of a sea level factor and a scale factor, each 9990000..10010000: the nearest
+   ten-millionth of their product. */
 uint32_t vas_combine(uint64_t sea, uint64_t scale, uint64_t *value);
 
 /* The grid distance of a measured one of 1000..20000000, by a combined factor of 9980000..10020010. */

@@ -49,12 +49,16 @@ def sure(answer: steps.Answer) -> int:
 # The figures of the legs
 
 
-def combined_factor(fields: Fields) -> int:
-    """Sea level and scale in one, for the whole traverse."""
+def both_factors(fields: Fields) -> tuple[int, int]:
+    """The sea level factor of the elevation, and the scale factor of the latitude's row."""
     project = fields.project
     scale = next(row.factor for row in fields.rows if row.minute == project.latitude)
-    sea_level = sure(steps.sea_level_factor(project.elevation))
-    return sure(steps.combined_factor(sea_level, scale))
+    return sure(steps.sea_level_factor(project.elevation)), scale
+
+
+def combined_factor(fields: Fields) -> int:
+    """Sea level and scale in one, for the whole traverse."""
+    return sure(steps.combined_factor(*both_factors(fields)))
 
 
 def grid_distances(fields: Fields) -> list[int]:

@@ -19,7 +19,7 @@ from .desk import LEAST_WORDS, traverse
 from .reading_cases import cut_somewhere, one_byte_changed
 from .sheet import LEAST_BYTES, printed, write_sheet
 from .tape import write_tape
-from .tapes import accepted, damaged, edges, printed_fields, with_closure, with_misclosure
+from .tapes import accepted, damaged, edges, examples, printed_fields, with_closure, with_misclosure
 
 RANDOM_TAPES = 500
 DAMAGED_TAPES = 300
@@ -66,6 +66,7 @@ def lent_rooms() -> Iterator[Case]:
 def cases() -> Iterator[Case]:
     """All cases of the bundle, in its order."""
     yield from map(Case, (write_tape(documents.load(name).fields) for name in documents.names()))
+    yield from map(Case, examples().values())
     yield from lent_rooms()
     yield from map(Case, edges())
     yield from map(Case, damaged())

@@ -7,16 +7,17 @@ docs/DOCUMENTS.md is not what is made here.
 
 import sys
 from functools import lru_cache
-from itertools import zip_longest
-from typing import Callable, Iterator, Sequence
+from itertools import repeat, zip_longest
+from typing import Callable, Iterator, NamedTuple, Sequence
 
-from . import documents, printed_steps, printed_traverses
-from .desk import combined_factor
+from . import documents, printed_steps, printed_traverses, steps
+from .desk import both_factors, combined_factor
 from .documents import Worked
 from .figures import Figure, Kind, Tally, by_kind, differing, tally
 from .page import DOCS, markdown, read
 from .steps import FACTOR_ONE
-from .tape import Fields
+from .tape import Fields, read_tape
+from .tapes import examples
 
 PAGE = DOCS / "DOCUMENTS.md"
 
@@ -40,6 +41,11 @@ STEP_BY_STEP = """\
 A difference in an azimuth or a length goes on into all that is computed from it. To see where the differences begin,
 each step is taken once more from what the document itself prints before it: latitudes and departures from its
 azimuths and lengths, closures from its latitudes and departures, adjusted stations from its closures."""
+
+TWO_WAYS = """\
+Document 002 multiplies the sea level factor by the scale factor, or adds the two and takes one off, and says that the
+result is the same. The desk multiplies. The product differs from the sum less one by the product of what the two
+factors depart from one, so the ways part where that comes to half a ten-millionth."""
 
 COUNTED_TWICE = "A survey that stands here with taped and with printed grid lengths counts twice."
 
@@ -220,6 +226,58 @@ def steps_section(name: str) -> str:
     ])
 
 
+# The combined factor
+
+
+class Factors(NamedTuple):
+    """A sea level factor and a scale factor, and whose they are."""
+
+    name: str
+    sea_level: int
+    scale: int
+
+    @property
+    def by_sum(self) -> int:
+        """Their sum less one, the other way of document 002."""
+        return self.sea_level + self.scale - FACTOR_ONE
+
+    @property
+    def by_product(self) -> int:
+        """Their product, which the desk takes."""
+        return steps.combined_factor(self.sea_level, self.scale).value
+
+    def row(self) -> tuple[str, ...]:
+        """Both factors, and both ways; the product also unrounded."""
+        seven = map(amount, (self.sea_level, self.scale, self.by_sum, self.by_product), repeat(7))
+        return self.name, *seven, amount(self.sea_level * self.scale, 14)
+
+
+def printed_factors() -> Iterator[Factors]:
+    """Those of the documents: in single steps, and in the traverses with taped lengths."""
+    for places in documents.single_steps()["combined_factor"]:
+        yield from (Factors(case.at, *case.given) for case in places.cases)
+    for worked in traverses():
+        if not is_unreduced(worked):
+            yield Factors(worked.title, *both_factors(worked.fields))
+
+
+def two_ways_section() -> str:
+    """The combined factor both ways, and in how many of the documents' cases it is the same."""
+    printed = list(printed_factors())
+    same = sum(factors.by_sum == factors.by_product for factors in printed)
+    hills = read_tape(examples()["hill_yard"]).fields
+    yard = Factors("the yard of `examples/hill_yard.txt`, at 7,000 feet", *both_factors(hills))
+    return joined([
+        "### The combined factor two ways",
+        f"{TWO_WAYS}\nThey give the same factor in {same} of the documents' {len(printed)} cases, and a figure further on"
+        " changes only where the factor does. For a yard at 7,000 feet they part.",
+        markdown(
+            ("of", "sea level", "scale", "sum less one", "product", "product, unrounded"),
+            [factors.row() for factors in (*printed, yard)],
+        ),
+    ])
+
+
 # The summary
 
 
@@ -275,6 +333,7 @@ def page() -> str:
         replayed_section(),
         "## Single steps",
         *map(steps_section, printed_steps.STEPS),
+        two_ways_section(),
         summary(),
     ])
 

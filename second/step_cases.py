@@ -5,8 +5,8 @@ four of an angle; before the words of the doubled area their count, one byte). A
 answered by number, place and value.
 """
 
-from itertools import product
-from math import isqrt
+from itertools import islice, product
+from math import gcd, isqrt
 from random import Random
 from typing import Callable, Iterable, Iterator, NamedTuple
 
@@ -16,6 +16,7 @@ from .ranges import (
     ANGLE, CIRCLE, COMBINED, DISTANCE, ELEVATION, FACTOR, GRID_DISTANCE, LEGS, MISCLOSURE, OFFSET,
     PASSED_CLOSURE, QUADRANT, TESTED_CLOSURE, TOTAL, Range,
 )
+from .steps import FACTOR_ONE
 
 SEED = 4
 INSIDE = 3
@@ -137,6 +138,25 @@ def halves() -> Iterator[Call]:
             yield from (Call(number, (distance, azimuth)) for number in (11, 12))
 
 
+def factors_with(over: int) -> Iterator[tuple[int, int]]:
+    """Every two factors whose product is so much over a whole number of ten-millionths, of those
+    that have no divisor in common with ten million."""
+    for sea_level in range(FACTOR.low, FACTOR.high + 1):
+        if gcd(sea_level, FACTOR_ONE) == 1:
+            scale = over * pow(sea_level, -1, FACTOR_ONE) % FACTOR_ONE
+            yield from ((sea_level, each) for each in (scale, scale + FACTOR_ONE) if FACTOR.holds(each))
+
+
+def combined_factors() -> Iterator[Call]:
+    """Products half a ten-millionth over and as near to that as can be on either side, and the
+    factors of a yard at 7,000 feet, whose product is not their sum less one."""
+    halves_over = product((9_995_000, 10_005_000), (9_991_000, 9_999_000, 10_001_000))
+    just_below, just_above = (islice(factors_with(over), 5) for over in (4_999_999, 5_000_001))
+    for pair in (*halves_over, *just_below, *just_above, (9_996_653, 10_001_989)):
+        yield Call(2, pair)
+    yield Call(1, (7_000,))
+
+
 def about_the_limits(chance: Random) -> Iterator[Call]:
     """Misclosures, closures and precision numbers at their limits and one past."""
     for n in range(LEGS.low, LEGS.high + 1):
@@ -206,6 +226,7 @@ def cases() -> list[Call]:
         *at_bounds(chance),
         *parts_of_a_whole(chance),
         *halves(),
+        *combined_factors(),
         *about_the_limits(chance),
         *areas(chance),
         *of_the_documents(),

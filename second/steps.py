@@ -49,10 +49,11 @@ def sea_level_factor(elevation: int) -> Answer:
 
 
 def combined_factor(sea_level: int, scale: int) -> Answer:
-    """Both factors in one, by adding what each departs from one."""
+    """Both factors in one: their product."""
     if not (FACTOR.holds(sea_level) and FACTOR.holds(scale)):
         return REFUSED
-    return answered(sea_level + scale - FACTOR_ONE)
+    factor = Fraction(sea_level, FACTOR_ONE) * Fraction(scale, FACTOR_ONE)
+    return answered(nearest(FACTOR_ONE * factor))
 
 
 def grid_distance(distance: int, combined: int) -> Answer:

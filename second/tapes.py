@@ -9,6 +9,7 @@ elevations from end to end, and several faults on one tape.
 
 from itertools import accumulate, combinations, count
 from math import isqrt
+from pathlib import Path
 from random import Random
 from typing import Callable, Iterator, Sequence
 
@@ -20,6 +21,12 @@ from .tape import encode, records_of, write_tape
 
 DEGREE = CIRCLE // 360
 THIRD = CIRCLE // 3
+EXAMPLES = Path(__file__).parent.parent / "examples"
+
+
+def examples() -> dict[str, bytes]:
+    """The tapes of the examples by name."""
+    return {path.stem: path.read_bytes() for path in sorted(EXAMPLES.glob("*.tape"))}
 
 
 # The sheet that paper 01 prints whole

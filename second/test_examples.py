@@ -1,26 +1,25 @@
 """The examples: each tape is what its notes say, each sheet what its tape gives."""
 
 import unittest
-from pathlib import Path
 
+from second.desk import combined_factor
 from second.documents import load
 from second.notes import tape_of
 from second.sheet import printed
-from second.tape import write_tape
-from second.tapes import printed_fields
+from second.tape import read_tape, write_tape
+from second.tapes import EXAMPLES, printed_fields
 
-FOLDER = Path(__file__).parent.parent / "examples"
-NAMES = ("yard", "wanda_mason", "refused")
+NAMES = ("yard", "wanda_mason", "hill_yard", "refused")
 
 
 def file_bytes(name: str, kind: str) -> bytes:
-    return (FOLDER / f"{name}.{kind}").read_bytes()
+    return (EXAMPLES / f"{name}.{kind}").read_bytes()
 
 
 class Examples(unittest.TestCase):
     def test_each_file_belongs_to_a_name(self) -> None:
         files = {f"{name}.{kind}" for name in NAMES for kind in ("txt", "tape", "sheet")}
-        self.assertEqual({path.name for path in FOLDER.iterdir()}, files | {"README.md", "sheet.c"})
+        self.assertEqual({path.name for path in EXAMPLES.iterdir()}, files | {"README.md", "sheet.c"})
 
     def test_tapes_are_what_the_notes_say(self) -> None:
         for name in NAMES:
@@ -33,6 +32,11 @@ class Examples(unittest.TestCase):
     def test_sheets_are_what_the_tapes_give(self) -> None:
         for name in NAMES:
             self.assertEqual(printed(file_bytes(name, "tape")).encode(), file_bytes(name, "sheet"))
+
+    def test_the_one_in_the_hills_is_reduced_by_the_product(self) -> None:
+        fields = read_tape(file_bytes("hill_yard", "tape")).fields
+        self.assertEqual((fields.project.elevation, fields.rows[1].factor), (7_000, 10_001_989))
+        self.assertEqual(combined_factor(fields), 9_998_641)
 
     def test_the_refused_one_is_refused_for_its_angle(self) -> None:
         self.assertEqual(file_bytes("refused", "sheet"), b"REFUSED 8\n")

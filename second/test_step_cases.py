@@ -38,6 +38,13 @@ class Cases(unittest.TestCase):
         self.assertGreater(len(calls), steps_of_documents)
         self.assertTrue(all(step_cases.expected(call)[0] == "0" for call in calls))
 
+    def test_products_of_factors_about_a_half(self):
+        calls = list(step_cases.combined_factors())
+        over = [sea * scale % 10_000_000 for sea, scale in (call.arguments for call in calls if call.step == 2)]
+        self.assertEqual([over.count(4_999_999), over.count(5_000_000), over.count(5_000_001)], [5, 6, 5])
+        self.assertEqual(step_cases.expected(Call(2, (9_996_653, 10_001_989))), "0 0 9998641\n")
+        self.assertIn(Call(2, (9_996_653, 10_001_989)), calls)
+
     def test_packed(self):
         packed = step_cases.packed
         self.assertEqual(packed(Call(1, (-2,))), b"\x01" + b"\xff" * 7 + b"\xfe")

@@ -22,6 +22,29 @@ class Distances(unittest.TestCase):
     def test_combined_factor_of_document_002(self):
         self.assertEqual(steps.combined_factor(9_999_546, 9_999_412), (0, 0, 9_998_958))
 
+    def test_combined_factor_in_the_hills(self):
+        self.assertEqual(steps.sea_level_factor(7_000), (0, 0, 9_996_653))
+        self.assertEqual(steps.combined_factor(9_996_653, 10_001_989), (0, 0, 9_998_641))
+
+    def test_the_sum_less_one_is_another_factor_where_the_departures_have_a_product_of_half_a_unit(self):
+        chance = Random(7)
+        for _ in range(2_000):
+            sea_level, scale = chance.randint(9_990_000, 10_010_000), chance.randint(9_990_000, 10_010_000)
+            departures = (sea_level - 10_000_000) * (scale - 10_000_000)
+            same = steps.combined_factor(sea_level, scale).value == sea_level + scale - 10_000_000
+            self.assertEqual(same, -5_000_000 <= departures < 5_000_000, (sea_level, scale))
+
+    def test_combined_factor_at_a_half(self):
+        self.assertEqual(steps.combined_factor(9_995_000, 9_999_000), (0, 0, 9_994_001))
+        self.assertEqual(steps.combined_factor(9_995_000, 10_001_000), (0, 0, 9_996_000))
+
+    def test_combined_factors_are_what_the_distance_step_takes(self):
+        for sea_level, scale, factor in (
+            (9_990_000, 9_990_000, 9_980_010), (9_990_000, 10_010_000, 9_999_990), (10_010_000, 10_010_000, 10_020_010),
+        ):
+            self.assertEqual(steps.combined_factor(sea_level, scale), (0, 0, factor))
+            self.assertEqual(steps.grid_distance(10_000_000, factor), (0, 0, factor))
+
     def test_grid_distance_rounds_to_the_nearest_thousandth(self):
         self.assertEqual(steps.grid_distance(1_000_500, 9_990_000), (0, 0, 999_500))
         self.assertEqual(steps.grid_distance(1_000_501, 9_990_000), (0, 0, 999_500))

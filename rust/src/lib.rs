@@ -119,7 +119,8 @@ pub fn sea_level(elevation: i64) -> Result<u64, Refusal> {
     valued(|value| sys::vas_sea_level(elevation, value))
 }
 
-/// The combined factor of a sea level factor and a scale factor, each 9,990,000..10,010,000.
+/// The combined factor of a sea level factor and a scale factor, each 9,990,000..10,010,000: the
+/// nearest ten-millionth of their product.
 pub fn combine(sea: u64, scale: u64) -> Result<u64, Refusal> {
     valued(|value| sys::vas_combine(sea, scale, value))
 }

@@ -99,6 +99,7 @@ fn distances() {
     assert_eq!(sea_level(1_235), Ok(9_999_409));
     assert_eq!(sea_level(-1_000), Ok(10_000_478));
     assert_eq!(combine(9_999_546, 9_999_412), Ok(9_998_958));
+    assert_eq!(combine(9_996_653, 10_001_989), Ok(9_998_641));
     assert_eq!(grid(1_000_500, 9_990_000), Ok(999_500)); // 999,499.5
 }
 
