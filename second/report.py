@@ -269,8 +269,8 @@ def two_ways_section() -> str:
     yard = Factors("the yard of `examples/hill_yard.txt`, at 7,000 feet", *both_factors(hills))
     return joined([
         "### The combined factor two ways",
-        f"{TWO_WAYS}\nThey give the same factor in {same} of the documents' {len(printed)} cases, and a figure further on"
-        " changes only where the factor does. For a yard at 7,000 feet they part.",
+        f"{TWO_WAYS}\nThey give the same factor in {same} of the documents' {len(printed)} cases,"
+        " and a figure further on changes only where the factor does. For a yard at 7,000 feet they part.",
         markdown(
             ("of", "sea level", "scale", "sum less one", "product", "product, unrounded"),
             [factors.row() for factors in (*printed, yard)],

@@ -144,7 +144,8 @@ def factors_with(over: int) -> Iterator[tuple[int, int]]:
     for sea_level in range(FACTOR.low, FACTOR.high + 1):
         if gcd(sea_level, FACTOR_ONE) == 1:
             scale = over * pow(sea_level, -1, FACTOR_ONE) % FACTOR_ONE
-            yield from ((sea_level, each) for each in (scale, scale + FACTOR_ONE) if FACTOR.holds(each))
+            both = ((sea_level, scale), (sea_level, scale + FACTOR_ONE))
+            yield from (pair for pair in both if FACTOR.holds(pair[1]))
 
 
 def combined_factors() -> Iterator[Call]:

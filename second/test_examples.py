@@ -1,8 +1,10 @@
 """The examples: each tape is what its notes say, each sheet what its tape gives."""
 
 import unittest
+from unittest import mock
 
-from second.desk import combined_factor
+from second import steps
+from second.desk import LEAST_WORDS, combined_factor, traverse
 from second.documents import load
 from second.notes import tape_of
 from second.sheet import printed
@@ -19,7 +21,8 @@ def file_bytes(name: str, kind: str) -> bytes:
 class Examples(unittest.TestCase):
     def test_each_file_belongs_to_a_name(self) -> None:
         files = {f"{name}.{kind}" for name in NAMES for kind in ("txt", "tape", "sheet")}
-        self.assertEqual({path.name for path in EXAMPLES.iterdir()}, files | {"README.md", "sheet.c"})
+        there = {path.name for path in EXAMPLES.iterdir()}
+        self.assertEqual(there, files | {"README.md", "sheet.c"})
 
     def test_tapes_are_what_the_notes_say(self) -> None:
         for name in NAMES:
@@ -37,6 +40,15 @@ class Examples(unittest.TestCase):
         fields = read_tape(file_bytes("hill_yard", "tape")).fields
         self.assertEqual((fields.project.elevation, fields.rows[1].factor), (7_000, 10_001_989))
         self.assertEqual(combined_factor(fields), 9_998_641)
+
+    def test_by_the_sum_three_of_its_corners_would_stand_a_hundredth_further_east(self) -> None:
+        tape = file_bytes("hill_yard", "tape")
+        corners = traverse(tape, LEAST_WORDS).coordinates
+        by_sum = mock.Mock(return_value=steps.answered(9_998_642))
+        with mock.patch.object(steps, "combined_factor", by_sum):
+            others = traverse(tape, LEAST_WORDS).coordinates
+        moved = [(two[0] - one[0], two[1] - one[1]) for one, two in zip(corners, others)]
+        self.assertEqual(moved, [(0, 0), (0, 0), (0, 1), (0, 1), (0, 1), (0, 0)])
 
     def test_the_refused_one_is_refused_for_its_angle(self) -> None:
         self.assertEqual(file_bytes("refused", "sheet"), b"REFUSED 8\n")

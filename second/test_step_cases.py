@@ -40,8 +40,9 @@ class Cases(unittest.TestCase):
 
     def test_products_of_factors_about_a_half(self):
         calls = list(step_cases.combined_factors())
-        over = [sea * scale % 10_000_000 for sea, scale in (call.arguments for call in calls if call.step == 2)]
-        self.assertEqual([over.count(4_999_999), over.count(5_000_000), over.count(5_000_001)], [5, 6, 5])
+        pairs = [call.arguments for call in calls if call.step == 2]
+        over = [sea * scale % 10_000_000 for sea, scale in pairs]
+        self.assertEqual([over.count(4_999_999 + more) for more in range(3)], [5, 6, 5])
         self.assertEqual(step_cases.expected(Call(2, (9_996_653, 10_001_989))), "0 0 9998641\n")
         self.assertIn(Call(2, (9_996_653, 10_001_989)), calls)
 

@@ -26,22 +26,34 @@ class Distances(unittest.TestCase):
         self.assertEqual(steps.sea_level_factor(7_000), (0, 0, 9_996_653))
         self.assertEqual(steps.combined_factor(9_996_653, 10_001_989), (0, 0, 9_998_641))
 
-    def test_the_sum_less_one_is_another_factor_where_the_departures_have_a_product_of_half_a_unit(self):
+    def by_the_sum(self, sea_level: int, scale: int) -> bool:
+        """Whether the sum less one is the same factor."""
+        return steps.combined_factor(sea_level, scale).value == sea_level + scale - 10_000_000
+
+    def test_where_the_sum_less_one_is_another_factor(self):
         chance = Random(7)
         for _ in range(2_000):
-            sea_level, scale = chance.randint(9_990_000, 10_010_000), chance.randint(9_990_000, 10_010_000)
+            sea_level, scale = (chance.randint(9_990_000, 10_010_000) for _ in range(2))
             departures = (sea_level - 10_000_000) * (scale - 10_000_000)
-            same = steps.combined_factor(sea_level, scale).value == sea_level + scale - 10_000_000
+            same = self.by_the_sum(sea_level, scale)
             self.assertEqual(same, -5_000_000 <= departures < 5_000_000, (sea_level, scale))
+
+    def test_how_high_that_begins_with_rows_within_2_in_10000(self):
+        def same(elevation: int) -> bool:
+            sea_level = steps.sea_level_factor(elevation).value
+            return all(self.by_the_sum(sea_level, scale) for scale in (9_998_000, 10_002_000))
+
+        self.assertTrue(all(map(same, range(-1_000, 5_227))))
+        self.assertFalse(same(5_227))
 
     def test_combined_factor_at_a_half(self):
         self.assertEqual(steps.combined_factor(9_995_000, 9_999_000), (0, 0, 9_994_001))
         self.assertEqual(steps.combined_factor(9_995_000, 10_001_000), (0, 0, 9_996_000))
 
     def test_combined_factors_are_what_the_distance_step_takes(self):
-        for sea_level, scale, factor in (
-            (9_990_000, 9_990_000, 9_980_010), (9_990_000, 10_010_000, 9_999_990), (10_010_000, 10_010_000, 10_020_010),
-        ):
+        low, high = 9_990_000, 10_010_000
+        corners = ((low, low, 9_980_010), (low, high, 9_999_990), (high, high, 10_020_010))
+        for sea_level, scale, factor in corners:
             self.assertEqual(steps.combined_factor(sea_level, scale), (0, 0, factor))
             self.assertEqual(steps.grid_distance(10_000_000, factor), (0, 0, factor))
 

@@ -1,5 +1,6 @@
--- The combined factor: over the elevations of the tape the sea level factor stays within a thousandth
--- of 1, and so does the row's, so their product is within the range that the distance step takes.
+-- The combined factor: over the elevations of the tape the sea level factor stays within a
+-- thousandth of 1, and so does the row's, so their product is within the range that the distance
+-- step takes.
 use Prim.Native.Nat.{ℕ, suc, _+_, _-_, _*_, _≤_, _<_}
 use native.Mathlib.Omega.{arith}
 use native.Mathlib.Decide.{decLe}

@@ -45,7 +45,7 @@ pub record Balanced : Type 0 where
   pub to : Point
   pub place : ℕ
 
--- that of the fields; its factor is the sea level factor of the elevation and that of the row, combined
+-- that of the fields; its factor is the sea level factor of the elevation combined with the row's
 unfoldable pub balancedTraverse : Fields → Balanced
 balancedTraverse f =
     record {

@@ -55,6 +55,7 @@ module _ (sea scale : ℕ) where
   unfolding combine nearest
   combine-is = nearest-is (pos (sea * scale)) 10000000 (omega arith)
 
-  pub combine-unique : (q : ℤ) → Nearest (pos (sea * scale)) 10000000 q → q ≡ pos (combine sea scale)
+  pub combine-unique : (q : ℤ) → Nearest (pos (sea * scale)) 10000000 q
+      → q ≡ pos (combine sea scale)
   unfolding combine nearest
   combine-unique q = nearest-unique (pos (sea * scale)) 10000000 q (omega arith)
