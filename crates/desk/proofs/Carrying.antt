@@ -13,7 +13,7 @@ use Rattle.minutes.specs.Quadrant.{circle}
 use Rattle.steps.specs.Azimuth.{fromMark, onward, misclosure, closesAngles, balanced}
 use Rattle.steps.specs.Share.{share}
 use Rattle.tape.specs.Fields.{Fields, fieldsOf}
-use Rattle.tape.specs.Bytes.{fourAt}
+use Rattle.records.specs.Bytes.{fourAt}
 use Rattle.whole.specs.Filled.{filled}
 use Rattle.desk.specs.Angles.{angleAt, carried, misclosureOf, balancedOf, zeros, Balanced, balancedTraverse}
 use Rattle.desk.specs.Answer.{stopped, good, checkedAngles}

@@ -17,8 +17,8 @@ use Rattle.steps.specs.Closure.{closes, root, precision}
 use Rattle.steps.specs.Course.{move, sineAlong}
 use Rattle.steps.specs.Distance.{seaLevel, combine, grid}
 use Rattle.steps.specs.Share.{share}
-use Rattle.tape.specs.Bytes.{num, bytes, meant, written}
-use Rattle.tape.specs.Record.{Rec, rec, table, fieldsOf, bodyOf, numbersOf, goodOf, bytesOf}
+use Rattle.records.specs.Bytes.{num, bytes, meant, written}
+use Rattle.records.specs.Record.{Rec, rec, table, fieldsOf, bodyOf, numbersOf, goodOf, bytesOf}
 use Rattle.tape.specs.Tape.{mayCome, roomOf, rowNext, projectNext, afterOf, takeOf, judge, stepOf, walk, readingOf, recordsFrom, tapeOf}
 use Rattle.tape.specs.Fields.{nothing, putIn, gathered, isRow, scaleOf, fieldsOf as named}
 use Rattle.desk.specs.Line.{run, preliminary, adjusted}

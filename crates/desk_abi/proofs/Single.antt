@@ -7,7 +7,7 @@ use mathlib.Core.List.{List}
 use lib.Dec.{ltb}
 use lib.IntN.{ℤ, natAbs}
 use Rattle.answer.specs.Told.{Told, passes}
-use Rattle.tape.specs.declared.Record.{Record}
+use Rattle.records.specs.declared.Record.{Record}
 use Rattle.tape.specs.Tape.{Told as Tape·Told}
 use Rattle.desk.specs.Answer.{Told as Desk·Told}
 use Rattle.desk_abi.specs.Face.{TellsAmount, TellsCount, TellsVerdict, Writes, TellsReading, TellsTraverse, Shows}

@@ -12,12 +12,12 @@ use Rattle.answer.specs.declared.Count.{Count}
 use Rattle.answer.specs.declared.Count.the-variants as count
 use Rattle.answer.specs.declared.Verdict.{Verdict}
 use Rattle.answer.specs.declared.Verdict.the-variants as verdict
-use Rattle.tape.specs.declared.Record.{Record}
-use Rattle.tape.specs.declared.Record.the-variants.{Project}
-use Rattle.tape.specs.declared.Written.{Written}
-use Rattle.tape.specs.Record.{goodRecord, bytesOfRecord}
+use Rattle.records.specs.declared.Record.{Record}
+use Rattle.records.specs.declared.Record.the-variants.{Project}
+use Rattle.writer.specs.declared.Written.{Written}
+use Rattle.records.specs.Record.{goodRecord, bytesOfRecord}
 use Rattle.tape.specs.Tape.{Told as Tape·Told}
-use Rattle.tape.specs.Write.{Wrote, told as Write·told}
+use Rattle.writer.specs.Write.{Wrote, told as Write·told}
 use Rattle.desk.specs.Answer.{Told as Desk·Told}
 use Rattle.desk.specs.declared.Page.{Page}
 use Rattle.desk.specs.Sheet.{Showed, told as Page·told}

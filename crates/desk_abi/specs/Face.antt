@@ -7,10 +7,10 @@ use lib.ListN.{length}
 use lib.IntN.{ℤ, pos}
 use Rattle.answer.specs.Told.{Told, passes}
 use Rattle.whole.specs.declared.Whole.{Whole}
-use Rattle.tape.specs.declared.Record.{Record}
-use Rattle.tape.specs.Record.{goodRecord, bytesOfRecord}
+use Rattle.records.specs.declared.Record.{Record}
+use Rattle.records.specs.Record.{goodRecord, bytesOfRecord}
 use Rattle.tape.specs.Tape.{Told as Tape·Told}
-use Rattle.tape.specs.Write.{Told as Write·Told, told, answerOf, leftOf}
+use Rattle.writer.specs.Write.{Told as Write·Told, told, answerOf, leftOf}
 use Rattle.desk.specs.Answer.{Told as Desk·Told}
 use Rattle.desk.specs.Sheet.{Told as Page·Told, told as Page·told, paged, pagedBytes}
 

@@ -1,6 +1,6 @@
 // Field notes: a traverse as lines of text, turned into a tape by the proved writer of records. docs/NOTES.md has the form of the text.
 use tape::Reading;
-use tape::Written;
+use writer::Written;
 ghost use mathlib.Core.Path.{_≡_};
 ghost use Prim.Native.Nat.{_≤_};
 ghost use lib.ListN.{length, take};
@@ -85,7 +85,7 @@ fn put_line(text: &[u8], from: usize, out: &mut [u8], place: usize) -> Entry {
         return Entry::Wrong(fault);
     }
     let record = line.record;
-    match tape::write(out, place, record) {
+    match writer::write(out, place, record) {
         Written::Until(next) => Entry::Until(next),
         Written::Refused { number, .. } => {
             if number == 1 {

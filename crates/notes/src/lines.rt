@@ -5,7 +5,7 @@ use crate::Word;
 use crate::fields;
 use crate::fields::Amount;
 use crate::scan;
-use tape::Record;
+use records::Record;
 use whole::Whole;
 
 // The record that a line says, or what is wrong with the line.

@@ -14,8 +14,8 @@ use lib.Signed.{leZ, leZ-yes, ltZ-yes}
 use borrow.Author.Tests.{lt-ltb, le-ltb}
 use Rattle.whole.specs.Order.{_≤ᶻ_, _<ᶻ_}
 use Rattle.whole.proofs.Diff.{int}
-use Rattle.tape.specs.Bytes.{Width, two, four, size, num, bytes, Coding, unsigned, twosComplement, room, meant, written}
-use Rattle.tape.specs.Record.{Field, Kind, Rec, table, look, fieldsOf, total, numbers, inRanges, spell, bodyOf, goodOf, bytesOf, numbersOf}
+use Rattle.records.specs.Bytes.{Width, two, four, size, num, bytes, Coding, unsigned, twosComplement, room, meant, written}
+use Rattle.records.specs.Record.{Field, Kind, Rec, table, look, fieldsOf, total, numbers, inRanges, spell, bodyOf, goodOf, bytesOf, numbersOf}
 use Rattle.tape.specs.Tape.{Next, walk, stepOf, judge, start, readingOf, recordsFrom, recordsOf, tapeOf, runOf, fieldsRead}
 use Rattle.tape.specs.declared.State.{State}
 use Rattle.tape.specs.declared.Reading.the-variants.{Reads}

@@ -13,8 +13,8 @@ use lib.Seq.{drop-cons, drop-drop}
 use borrow.Author.Tests.{ltb-true, ltb-false, lt-leb, eq-eqb, ne-eqb}
 use Rattle.whole.specs.Filled.{filled}
 use Rattle.whole.specs.declared.Whole.{Whole}
-use Rattle.tape.specs.Bytes.{two, four, num, meant, twosComplement}
-use Rattle.tape.specs.Record.{Rec, rec, bodyOf, numbersOf, fieldsOf, table}
+use Rattle.records.specs.Bytes.{two, four, num, meant, twosComplement}
+use Rattle.records.specs.Record.{Rec, rec, bodyOf, numbersOf, fieldsOf, table}
 use Rattle.tape.specs.Tape.{Next, firstOf, stepOf, walk, start, readingOf, recordsFrom, told}
 use Rattle.tape.specs.Fields.{Fields, fieldsOf as named, nothing, number, putIn, gathered, isRow, scaleOf, withScale, controlOf, takenOf}
 use Rattle.tape.specs.Passing.{to}

@@ -15,14 +15,14 @@ use lib.Signed.{leZ, leZ-yes}
 use borrow.Author.Tests.{ltb-true, leb-true, lt-leb, eqb-true, eqb-false, eq-eqb, ne-eqb}
 use Rattle.whole.specs.Order.{_≤ᶻ_}
 use Rattle.whole.proofs.Diff.{int}
-use Rattle.tape.specs.Record.{Field, Rec, rec, fieldsOf, table, inRanges, goodOf, bodyOf}
+use Rattle.records.specs.Record.{Field, Rec, rec, fieldsOf, table, inRanges, goodOf, bodyOf}
 use Rattle.tape.specs.Tape.{Next, mayCome, roomOf, rowNext, projectNext, firstOf, afterOf, judge, start, runOf, recordsOf}
 use Rattle.tape.specs.Fields.{Fields, fieldsOf as named, nothing, number, putIn, gathered, isRow, scaleOf, DoesRead}
 use Rattle.tape.specs.declared.State.{State}
 use Rattle.tape.specs.declared.Reading.{Reading}
 use Rattle.tape.specs.declared.Reading.the-variants.{Reads}
 use Rattle.whole.proofs.Branch.{by-test}
-use Rattle.tape.proofs.Bodies.{come-kind, is-close}
+use Rattle.tape.proofs.Coming.{come-kind, is-close}
 use Rattle.tape.proofs.Walk.{passed}
 use Rattle.tape.proofs.Round.{reads-next, lawful}
 use Rattle.tape.proofs.Rows.{Runs, done, more, In, Has, Leads, rows-mean}

@@ -10,7 +10,7 @@ use lib.ListN.{length, getD, replicate}
 use borrow.Author.Tests.{ltb-true, ltb-false}
 use Rattle.whole.specs.Filled.{filled}
 use Rattle.whole.proofs.Filling.{filled-length, filled-at, filled-behind}
-use Rattle.tape.specs.Bytes.{fourAt}
+use Rattle.records.specs.Bytes.{fourAt}
 use Rattle.tape.specs.Tape.{readingOf}
 use Rattle.tape.specs.Fields.{fieldsOf, controlOf, takenIf, takenOf, DoesRead}
 use Rattle.tape.specs.declared.Control.{Control}

@@ -1,7 +1,7 @@
 pub mod Back
-pub mod Bodies
 pub mod Gathering
 pub mod Held
+pub mod Coming
 pub mod Legs
 pub mod Longest
 pub mod Numbers
@@ -12,7 +12,4 @@ pub mod Refusals
 pub mod Round
 pub mod Rows
 pub mod Single
-pub mod Stores
-pub mod Tests
 pub mod Walk
-pub mod Ways

@@ -9,8 +9,8 @@ use lib.Dec.{T, eqb, ltb}
 use lib.IntN.{ℤ}
 use lib.ListN.{length, length-append, List·getD-append}
 use borrow.Author.Tests.{ltb-true, lt-ltb, eqb-true}
-use Rattle.tape.specs.Bytes.{Width, two, four, size, num}
-use Rattle.tape.specs.Record.{Field, table, fieldsOf, total, numbers, numbersOf, bodyOf}
+use Rattle.records.specs.Bytes.{Width, two, four, size, num}
+use Rattle.records.specs.Record.{Field, table, fieldsOf, total, numbers, numbersOf, bodyOf}
 use Rattle.tape.specs.Tape.{Step, Next, Stop, mayCome, roomOf, rowNext, projectNext, firstOf, afterOf, takeOf, judge, stepOf, onStep, walk, start, readingOf}
 use Rattle.tape.specs.declared.State.{State}
 use Rattle.tape.specs.declared.Reading.{Reading}

@@ -9,7 +9,7 @@ use lib.ListN.{length, drop, getD}
 use lib.IntN.{ℤ, pos, negℤ}
 use lib.Seq.{getD-drop}
 use borrow.Author.Tests.{le-leb, lt-leb, lt-ltb, le-ltb}
-use Rattle.tape.specs.Bytes.{Width, two, four, num, fourAt, meant, twosComplement}
+use Rattle.records.specs.Bytes.{Width, two, four, num, fourAt, meant, twosComplement}
 
 pub head-drop : (n : ℕ) (l : List ℕ) → getD (drop n l) 0 0 ≡ getD l n 0
 head-drop n l = rw (getD-drop, add-zero)

@@ -10,7 +10,7 @@ use lib.Dec.{eqb, ltb, leb}
 use lib.IntN.{ℤ}
 use lib.ListN.{length}
 use borrow.Author.Tests.{ltb-true, leb-true, eqb-true, ne-eqb}
-use Rattle.tape.specs.Record.{bodyOf, numbersOf}
+use Rattle.records.specs.Record.{bodyOf, numbersOf}
 use Rattle.tape.specs.Tape.{Next, mayCome, roomOf, rowNext, projectNext, firstOf, afterOf, judge, stepOf, walk}
 use Rattle.tape.specs.Passing.{to}
 use Rattle.tape.specs.declared.State.{State}

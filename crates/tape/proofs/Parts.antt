@@ -12,8 +12,8 @@ use mir.Val.{Fits}
 use lib.Dec.{eqb, ltb}
 use lib.ListN.{length, getD, drop, List·getD-eq-default}
 use borrow.Author.Tests.{lt-ltb, le-ltb, eq-eqb, ne-eqb, eqb-true}
-use Rattle.tape.specs.Bytes.{two, num}
-use Rattle.tape.specs.Record.{bodyOf, fieldsOf, table}
+use Rattle.records.specs.Bytes.{two, num}
+use Rattle.records.specs.Record.{bodyOf, fieldsOf, table}
 use Rattle.tape.specs.Tape.{Stop, mayCome, roomOf, stepOf, start, readingOf}
 use Rattle.tape.specs.Passing.{to, onward, Passes, Ran, Opened}
 use Rattle.tape.specs.declared.State.{State}

@@ -10,8 +10,8 @@ use lib.Dec.{eqb, ltb}
 use lib.IntN.{ℤ, pos}
 use lib.ListN.{length, getD, drop, length-drop}
 use borrow.Author.Tests.{lt-ltb, le-ltb, eq-eqb, ne-eqb, le-leb, lt-leb}
-use Rattle.tape.specs.Bytes.{two, four, num, meant, twosComplement}
-use Rattle.tape.specs.Record.{bodyOf, numbersOf, fieldsOf, table, goodOf}
+use Rattle.records.specs.Bytes.{two, four, num, meant, twosComplement}
+use Rattle.records.specs.Record.{bodyOf, numbersOf, fieldsOf, table, goodOf}
 use Rattle.tape.specs.Tape.{Step, Next, Stop, mayCome, roomOf, rowNext, projectNext, afterOf, takeOf, judge, stepOf}
 use Rattle.tape.specs.Passing.{to, onward, Passes}
 use Rattle.tape.specs.declared.State.{State}

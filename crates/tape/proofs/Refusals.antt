@@ -7,7 +7,7 @@ use mathlib.Core.List.{List, [], _∷_}
 use mathlib.Core.Bool.{Bool, cond}
 use lib.Dec.{eqb, ltb}
 use borrow.Author.Needs.{needs}
-use Rattle.tape.specs.Record.{bodyOf}
+use Rattle.records.specs.Record.{bodyOf}
 use Rattle.tape.specs.Tape.{Step, Next, Stop, roomOf, rowNext, projectNext, afterOf, takeOf, judge, stepOf, onStep, walk, start, readingOf}
 use Rattle.tape.specs.declared.State.{State}
 use Rattle.tape.specs.declared.Reading.{Reading}

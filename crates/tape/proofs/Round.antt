@@ -9,8 +9,8 @@ use lib.Dec.{ltb}
 use lib.ListN.{length, getD, take, drop, take-append-drop}
 use lib.Seq.{drop-cons, drop-drop, take-add}
 use borrow.Author.Tests.{lt-ltb}
-use Rattle.tape.specs.Bytes.{Width, two, four, size, num, bytes, Coding, unsigned, twosComplement, room, meant, written}
-use Rattle.tape.specs.Record.{Field, fieldsOf, total, numbers, spell, bodyOf, bytesOf, numbersOf}
+use Rattle.records.specs.Bytes.{Width, two, four, size, num, bytes, Coding, unsigned, twosComplement, room, meant, written}
+use Rattle.records.specs.Record.{Field, fieldsOf, total, numbers, spell, bodyOf, bytesOf, numbersOf}
 use Rattle.tape.specs.Tape.{Step, Next, Stop, walk, stepOf, judge, onStep, start, readingOf, recordsFrom, recordsOf, tapeOf, runOf, fieldsRead}
 use Rattle.tape.specs.declared.State.{State}
 use Rattle.tape.specs.declared.Reading.{Reading}

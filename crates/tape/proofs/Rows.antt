@@ -10,7 +10,7 @@ use mathlib.Core.Logic.{_↔_, _⊎_, inl, inr, ⊎-elim, Iff·trans, Iff·not}
 use lib.Dec.{eqb, ltb, leb}
 use lib.IntN.{ℤ}
 use borrow.Author.Tests.{ltb-true, ltb-false, leb-true, leb-false, eqb-true, eqb-false, ne-eqb}
-use Rattle.tape.specs.Record.{Rec}
+use Rattle.records.specs.Record.{Rec}
 use Rattle.tape.specs.Tape.{Step, Next, Stop, judge, afterOf, rowNext, projectNext, firstOf, start}
 use Rattle.tape.specs.declared.State.{State}
 use Rattle.whole.proofs.Branch.{cond-and, by-test}

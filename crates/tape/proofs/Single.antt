@@ -1,18 +1,13 @@
 -- Any two outcomes that a promise of this crate allows coincide: a tape reads in one way, with one set of fields, or is refused with one number and
--- place, a place of it has one number, and a writer leaves one answer and one list of bytes. It is true because each promise says what the outcome equals,
--- from what was given alone.
+-- place, and a place of it has one number. It is true because each promise says what the outcome equals, from what was given alone.
 use mathlib.Core.Path.{_≡_, sym, _∙_}
 use mathlib.Core.List.{List}
 use Prim.Native.Nat.{ℕ}
 use Rattle.tape.specs.declared.Reading.{Reading}
-use Rattle.tape.specs.declared.Record.{Record}
 use Rattle.tape.specs.declared.Taken.{Taken}
-use Rattle.tape.specs.declared.Written.{Written}
-use Rattle.tape.specs.Bytes.{fourAt}
-use Rattle.tape.specs.Record.{goodRecord, bytesOfRecord}
+use Rattle.records.specs.Bytes.{fourAt}
 use Rattle.tape.specs.Tape.{readingOf}
 use Rattle.tape.specs.Fields.{takenOf}
-use Rattle.tape.specs.Write.{Wrote}
 
 pub read-single : (tape : List ℕ) (x y : Reading) → x ≡ readingOf tape → y ≡ readingOf tape → x ≡ y
 read-single tape x y e f = e ∙ sym f
@@ -22,7 +17,3 @@ take-single tape x y e f = e ∙ sym f
 
 pub four-single : (tape : List ℕ) (at x y : ℕ) → x ≡ fourAt tape at → y ≡ fourAt tape at → x ≡ y
 four-single tape at x y e f = e ∙ sym f
-
-pub write-single : (out a b : List ℕ) (place : ℕ) (given : Record) (x y : Written)
-    → Wrote out a place (goodRecord given) (bytesOfRecord given) x → Wrote out b place (goodRecord given) (bytesOfRecord given) y → (x ≡ y) × (a ≡ b)
-write-single out a b place given x y v w = (v .answer ∙ sym (w .answer), v .left ∙ sym (w .left))

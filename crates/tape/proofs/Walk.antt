@@ -11,7 +11,7 @@ use lib.ListN.{length, getD, drop, length-drop, drop-of-length-le}
 use lib.Seq.{drop-cons, drop-drop}
 use borrow.Author.Tests.{ltb-true, eq-eqb, ne-eqb}
 use Rattle.tape.specs.Tape.{Step, Next, Stop, walk, stepOf, mayCome, roomOf, afterOf, takeOf, judge, onStep}
-use Rattle.tape.specs.Record.{bodyOf, goodOf, numbersOf}
+use Rattle.records.specs.Record.{bodyOf, goodOf, numbersOf}
 use Rattle.tape.specs.declared.State.{State}
 use Rattle.tape.specs.declared.Reading.{Reading}
 use Rattle.tape.specs.declared.Reading.the-variants.{Refused, Reads}

@@ -14,7 +14,7 @@ use Rattle.tape.specs.declared.Taken.{Taken}
 use Rattle.tape.specs.declared.Taken.the-variants as taken
 use Rattle.tape.specs.declared.Reading.{Reading}
 use Rattle.tape.specs.declared.Reading.the-variants as reading
-use Rattle.tape.specs.Record.{Rec, bodyOf}
+use Rattle.records.specs.Record.{Rec, bodyOf}
 use Rattle.tape.specs.Tape.{readingOf, recordsOf, Told}
 
 -- the angle right at station k turns to leg k; that at the last station is the closing one. place is the close's first byte

@@ -9,7 +9,7 @@ use lib.IntN.{ℤ, pos, natAbs}
 use Rattle.tape.specs.declared.State.{State}
 use Rattle.tape.specs.declared.Reading.{Reading}
 use Rattle.tape.specs.declared.Reading.the-variants.{Refused, Reads}
-use Rattle.tape.specs.Record.{Rec, bodyOf, numbersOf, goodOf, bytesOf}
+use Rattle.records.specs.Record.{Rec, bodyOf, numbersOf, goodOf, bytesOf}
 
 -- one record: what has been read with it, or the number of its refusal
 pub data Step : Type 0 where

@@ -3,7 +3,7 @@ use whole::Whole;
 ghost use mathlib.Core.Path.{_≡_};
 ghost use Prim.Native.Nat.{_+_, _<_, _≤_};
 ghost use lib.ListN.{length};
-ghost use Rattle.tape.specs.Bytes.{num, two, four, meant, twosComplement};
+ghost use Rattle.records.specs.Bytes.{num, two, four, meant, twosComplement};
 
 fn wide(x: u8) -> u32
     ensures { λ r. ⌜ (r ≡ x) × (r < 256) ⌝ }

@@ -1,42 +1,11 @@
-// The tape: its records, the reading of a whole tape, and the writing of one record.
+// The tape: the reading of a whole tape, and its fields.
 use whole::Whole;
 ghost use mathlib.Core.Path.{_≡_};
-ghost use mathlib.Core.Bool.{true};
-ghost use mathlib.Core.List.{_++_};
-ghost use Prim.Native.Nat.{_+_, _-_, _≤_};
-ghost use lib.ListN.{length, take, drop};
-ghost use Rattle.tape.specs.Bytes.{fourAt};
-ghost use Rattle.tape.specs.Record.{goodRecord, bytesOfRecord};
+ghost use Prim.Native.Nat.{_-_};
+ghost use lib.ListN.{length};
+ghost use Rattle.records.specs.Bytes.{fourAt};
 ghost use Rattle.tape.specs.Tape.{readingOf, told};
 ghost use Rattle.tape.specs.Fields.{takenOf, toldTaken};
-ghost use Rattle.tape.specs.Write.{Wrote};
-
-// A record, with its fields as the paper names them.
-pub enum Record {
-    Row {
-        minute: u32,
-        factor: u32,
-    },
-    Project {
-        latitude: u32,
-        elevation: Whole,
-    },
-    Start {
-        northing: u32,
-        easting: u32,
-        mark: u32,
-    },
-    Leg {
-        angle: u32,
-        distance: u32,
-    },
-    Close {
-        angle: u32,
-        northing: u32,
-        easting: u32,
-        mark: u32,
-    },
-}
 
 // What has been read so far: what may come (0 rows or the project, 1 the start, 2 legs or the close, 3 nothing), how many rows and legs, and the
 // minute that the next row must have.
@@ -57,12 +26,6 @@ struct Passed {
 // What a tape's reading answers.
 pub enum Reading {
     Reads(State),
-    Refused { number: u32, place: usize },
-}
-
-// What the writer of one record answers: the next place, or the refusal.
-pub enum Written {
-    Until(usize),
     Refused { number: u32, place: usize },
 }
 
@@ -92,9 +55,7 @@ pub enum Taken {
 
 mod digits;
 mod order;
-mod ranges;
 mod taking;
-mod writing;
 
 // The reading of any tape, before refusals 8 and 9.
 pub fn read(tape: &[u8]) -> Reading
@@ -133,56 +94,4 @@ pub fn four(tape: &[u8], at: usize) -> u32
         return digits::four_at(tape, at);
     }
     0
-}
-
-// The rest of the bytes lent on to the writer of the record's kind.
-fn lend_on(out: &mut [u8], place: usize, given: Record)
-    requires { ⌜ place + length (bytesOfRecord given) ≤ length (now out) ⌝ }
-    requires { ⌜ goodRecord given ≡ true ⌝ }
-    ensures { λ r. ⌜ now (out .exit) ≡ take place (now (out .entry)) ++ (bytesOfRecord given ++ drop (place + length (bytesOfRecord given)) (now (out .entry))) ⌝ }
-{
-    match given {
-        Record::Row { minute, factor } => writing::put_row(&mut out[place..], minute, factor),
-        Record::Project {
-            latitude,
-            elevation,
-        } => writing::put_project(&mut out[place..], latitude, elevation),
-        Record::Start {
-            northing,
-            easting,
-            mark,
-        } => writing::put_start(&mut out[place..], northing, easting, mark),
-        Record::Leg { angle, distance } => writing::put_leg(&mut out[place..], angle, distance),
-        Record::Close {
-            angle,
-            northing,
-            easting,
-            mark,
-        } => writing::put_close(&mut out[place..], angle, northing, easting, mark),
-    }
-}
-
-// One record, written at a place of the lent bytes: its room is tried, then its fields, and the rest of the bytes lent on to the writer of its kind.
-// Any place may be given.
-pub fn write(out: &mut [u8], place: usize, given: Record) -> Written
-    ensures { λ r. ⌜ Wrote (now (out .entry)) (now (out .exit)) place (goodRecord given) (bytesOfRecord given) r ⌝ }
-{
-    let body = ranges::body_len(ranges::kind(given));
-    if out.len() < place {
-        return Written::Refused {
-            number: 1,
-            place: 0,
-        };
-    }
-    if out.len() - place <= body {
-        return Written::Refused {
-            number: 1,
-            place: 0,
-        };
-    }
-    if ranges::good(given) {
-        lend_on(out, place, given);
-        return Written::Until(place + 1 + body);
-    }
-    Written::Refused { number: 4, place }
 }

@@ -7,13 +7,13 @@ use crate::Reading;
 use crate::State;
 use crate::digits;
 use crate::places;
-use crate::ranges;
+use records::ranges;
 ghost use mathlib.Core.Path.{_≡_};
 ghost use mathlib.Core.Bool.{cond, false};
 ghost use Prim.Native.Nat.{_+_, _<_, _≤_};
 ghost use lib.Dec.{eqb, ltb};
 ghost use lib.ListN.{length, getD};
-ghost use Rattle.tape.specs.Bytes.{two, num};
+ghost use Rattle.records.specs.Bytes.{two, num};
 ghost use Rattle.tape.specs.Tape.{start as Tape·start, readingOf};
 ghost use Rattle.tape.specs.Passing.{to, onward, Passes, Ran, Opened};
 

@@ -1,0 +1,117 @@
+-- Paper 01, "The tape": the table of kinds as data, and from it the length, the fields, the ranges and the bytes of a record.
+use mathlib.Core.Bool.{Bool, true, false, cond, _&&_}
+use mathlib.Core.List.{List, [], _∷_, _++_}
+use Prim.Native.Nat.{ℕ, _+_}
+use lib.Dec.{eqb}
+use lib.IntN.{ℤ, pos, negℤ}
+use lib.Signed.{leZ}
+use Rattle.records.specs.declared.Record.{Record}
+use Rattle.records.specs.declared.Record.the-variants as kinds
+use Rattle.records.specs.Bytes.{Width, two, four, size, num, bytes, Coding, unsigned, twosComplement, meant, written}
+
+-- a field: how it is written, and its range
+pub record Field : Type 0 where
+  pub width : Width
+  pub coding : Coding
+  pub low : ℤ
+  pub high : ℤ
+
+abbrev plain : Width → ℕ → ℕ → Field
+plain w low high = record { width = w; coding = unsigned; low = pos low; high = pos high }
+
+abbrev minute : Field
+minute = plain two 0 5400
+
+abbrev factor : Field
+factor = plain four 9990000 10010000
+
+abbrev elevation : Field
+elevation = record { width = two; coding = twosComplement; low = negℤ (pos 1000); high = pos 20000 }
+
+abbrev coordinate : Field
+coordinate = plain four 0 1000000000
+
+abbrev angle : Field
+angle = plain four 0 12959999
+
+abbrev distance : Field
+distance = plain four 1000 20000000
+
+-- ---- the table of kinds
+pub record Kind : Type 0 where
+  pub kind : ℕ
+  pub fields : List Field
+
+abbrev row : ℕ → List Field → Kind
+row kind fields = record { kind = kind; fields = fields }
+
+unfoldable pub table : List Kind
+table =
+    row 5 (minute ∷ factor ∷ [])
+    ∷ row 1 (minute ∷ elevation ∷ [])
+    ∷ row 2 (coordinate ∷ coordinate ∷ angle ∷ [])
+    ∷ row 3 (angle ∷ distance ∷ [])
+    ∷ row 4 (angle ∷ coordinate ∷ coordinate ∷ angle ∷ [])
+    ∷ []
+
+-- the fields of a kind: those of its row; a kind that has none is never taken
+abbrev pub look : List Kind → ℕ → List Field
+look [] k = []
+look (r ∷ rows) k = cond (eqb k (r .kind)) (r .fields) (look rows k)
+
+unfoldable pub fieldsOf : ℕ → List Field
+fieldsOf k = look table k
+
+-- ---- of a record of a kind: the length of its body, its numbers, whether they are in range, its bytes
+abbrev pub total : List Field → ℕ
+total [] = 0
+total (f ∷ fs) = size (f .width) + total fs
+
+abbrev pub numbers : List Field → List ℕ → ℕ → List ℤ
+numbers [] l k = []
+numbers (f ∷ fs) l k = meant (f .coding) (f .width) (num (f .width) l k) ∷ numbers fs l (k + size (f .width))
+
+abbrev pub inRanges : List Field → List ℤ → Bool
+inRanges [] [] = true
+inRanges [] (v ∷ vs) = false
+inRanges (f ∷ fs) [] = false
+inRanges (f ∷ fs) (v ∷ vs) = (leZ (f .low) v && leZ v (f .high)) && inRanges fs vs
+
+abbrev pub spell : List Field → List ℤ → List ℕ
+spell [] vs = []
+spell (f ∷ fs) [] = []
+spell (f ∷ fs) (v ∷ vs) = bytes (f .width) (written (f .width) v) ++ spell fs vs
+
+unfoldable pub bodyOf : ℕ → ℕ
+bodyOf k = total (fieldsOf k)
+
+-- the numbers of the record of kind k at the front of l
+unfoldable pub numbersOf : ℕ → List ℕ → List ℤ
+numbersOf k l = numbers (fieldsOf k) l 1
+
+unfoldable pub goodOf : ℕ → List ℤ → Bool
+goodOf k vs = inRanges (fieldsOf k) vs
+
+unfoldable pub bytesOf : ℕ → List ℤ → List ℕ
+bytesOf k vs = k ∷ spell (fieldsOf k) vs
+
+-- ---- a record by itself: its kind and its numbers. The code's records are these
+pub record Rec : Type 0 where
+  pub kind : ℕ
+  pub values : List ℤ
+
+abbrev pub rec : ℕ → List ℤ → Rec
+rec kind values = record { kind = kind; values = values }
+
+unfoldable pub recOf : Record → Rec
+recOf (kinds.Row m f) = rec 5 (pos m ∷ pos f ∷ [])
+recOf (kinds.Project m e) = rec 1 (pos m ∷ e .v ∷ [])
+recOf (kinds.Start n e m) = rec 2 (pos n ∷ pos e ∷ pos m ∷ [])
+recOf (kinds.Leg a d) = rec 3 (pos a ∷ pos d ∷ [])
+recOf (kinds.Close a n e m) = rec 4 (pos a ∷ pos n ∷ pos e ∷ pos m ∷ [])
+
+abbrev pub goodRecord : Record → Bool
+goodRecord r = goodOf (recOf r .kind) (recOf r .values)
+
+abbrev pub bytesOfRecord : Record → List ℕ
+bytesOfRecord r = bytesOf (recOf r .kind) (recOf r .values)

@@ -1,0 +1,31 @@
+-- `put_leg` meets its contract: the kind's byte, then each field behind the one before.
+use denote.Ref.{now}
+use borrow.Author.Needs.{needs}
+use Rattle.writer.proofs.Stores.{leg-stored}
+use Rattle.writer.proofs.writing.put_leg.Statement.{statement}
+use Rattle.writer.proofs.writing.put_leg.Tie as tie
+
+put-kind-requires : tie.Need-put-kind-requires
+put-kind-requires c κs = search needs
+
+put-four-requires : tie.Need-put-four-requires
+put-four-requires c κs = search needs
+
+put-four-requires-2 : tie.Need-put-four-requires-2
+put-four-requires-2 c κs = search needs
+
+same-length : tie.Need-same-length
+same-length c = search needs
+
+returns : tie.Need-returns
+returns c =
+    let d = c .before .before in
+    let e = d .before .before .before .before in
+    let f = e .before .before .before .before in
+    let s = f .before .before .before in
+    leg-stored (now (s .args .out)) _ _ _ _ _ (d .put-four2 .ensures) (e .put-four .ensures) (f .put-kind .ensures) (s .pre)
+
+pub put-leg-spec : {M : Type 1} → statement M
+put-leg-spec =
+    tie.close
+    (tie.spec put-kind-requires put-four-requires put-four-requires-2 same-length returns)

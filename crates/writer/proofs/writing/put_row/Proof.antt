@@ -1,0 +1,30 @@
+-- `put_row` meets its contract: the kind's byte, then each field behind the one before.
+use denote.Ref.{now}
+use borrow.Author.Needs.{needs}
+use Rattle.writer.proofs.Stores.{row-stored}
+use Rattle.writer.proofs.writing.put_row.Statement.{statement}
+use Rattle.writer.proofs.writing.put_row.Tie as tie
+
+put-kind-requires : tie.Need-put-kind-requires
+put-kind-requires c κs = search needs
+
+put-two-requires : tie.Need-put-two-requires
+put-two-requires c κs = search needs
+
+put-four-requires : tie.Need-put-four-requires
+put-four-requires c κs = search needs
+
+same-length : tie.Need-same-length
+same-length c = search needs
+
+returns : tie.Need-returns
+returns c =
+    let d = c .before .before in
+    let e = d .before .before .before .before in
+    let f = e .before .before .before .before in
+    let s = f .before .before .before in
+    row-stored (now (s .args .out)) _ _ _ _ _ (d .put-four .ensures) (e .put-two .ensures) (f .put-kind .ensures) (s .pre)
+
+pub put-row-spec : {M : Type 1} → statement M
+put-row-spec =
+    tie.close (tie.spec put-kind-requires put-two-requires put-four-requires same-length returns)

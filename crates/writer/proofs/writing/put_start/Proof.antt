@@ -1,0 +1,41 @@
+-- `put_start` meets its contract: the kind's byte, then each field behind the one before.
+use denote.Ref.{now}
+use borrow.Author.Needs.{needs}
+use Rattle.writer.proofs.Stores.{start-stored}
+use Rattle.writer.proofs.writing.put_start.Statement.{statement}
+use Rattle.writer.proofs.writing.put_start.Tie as tie
+
+put-kind-requires : tie.Need-put-kind-requires
+put-kind-requires c κs = search needs
+
+put-four-requires : tie.Need-put-four-requires
+put-four-requires c κs = search needs
+
+put-four-requires-2 : tie.Need-put-four-requires-2
+put-four-requires-2 c κs = search needs
+
+put-four-requires-3 : tie.Need-put-four-requires-3
+put-four-requires-3 c κs = search needs
+
+same-length : tie.Need-same-length
+same-length c = search needs
+
+returns : tie.Need-returns
+returns c =
+    let d = c .before .before in
+    let e = d .before .before .before .before in
+    let f = e .before .before .before .before in
+    let g = f .before .before .before .before in
+    let s = g .before .before .before in
+    start-stored (now (s .args .out)) _ _ _ _ _ _ _ (d .put-four3 .ensures) (e .put-four2 .ensures) (f .put-four .ensures) (g .put-kind .ensures) (s .pre)
+
+pub put-start-spec : {M : Type 1} → statement M
+put-start-spec =
+    tie.close
+    (tie.spec
+    put-kind-requires
+    put-four-requires
+    put-four-requires-2
+    put-four-requires-3
+    same-length
+    returns)
