@@ -20,7 +20,7 @@ use Rattle.tape.specs.Tape.{readingOf}
 use Rattle.tape.specs.Fields.{fieldsOf, DoesRead}
 use Rattle.whole.proofs.Branch.{by-test}
 use Rattle.tape.proofs.Refusals.{reading-number}
-use Rattle.desk.specs.Angles.{carried, misclosureOf, Balanced, balancedTraverse}
+use Rattle.desk.specs.Angles.{misclosureOf, Balanced, balancedTraverse}
 use Rattle.desk.specs.Answer.{Told, First, firstIf, firstOf, checkedAngles, northClosure, eastClosure, distanceRun, closesOn, second, secondWords, afterFirst, firstFor, traversedBy, traversedWordsBy}
 use Rattle.desk.specs.Inside.{Sound}
 use Rattle.desk.specs.Line.{closure, adjusted}
@@ -111,7 +111,7 @@ module _ (e : ℕ → ℤ) (tape : List ℕ) (room : ℕ) where
       rw (accepted-told a, a .closes)
       (record {
         legs = sound .few;
-        w = misclosure-most (carried f (f .legs)) (f .given);
+        w = misclosure-most _ (f .given);
         north = near north;
         east = near east;
         precision = omega (arith, precision-most (northClosure e b) (eastClosure e b) (distanceRun b) (omega arith));

@@ -7,10 +7,9 @@ use mathlib.Core.List.{List}
 use lib.Dec.{ltb}
 use lib.ListN.{length}
 use lib.IntN.{ℤ}
-use Rattle.steps.specs.Azimuth.{closesAngles, onward}
+use Rattle.steps.specs.Azimuth.{closesAngles}
 use Rattle.tape.specs.Fields.{Fields, fieldsOf, DoesRead}
-use Rattle.whole.specs.Filled.{filled}
-use Rattle.desk.specs.Angles.{angleAt, carried, misclosureOf, balancedOf, zeros, Balanced, balancedTraverse}
+use Rattle.desk.specs.Angles.{misclosureOf, Balanced, balancedTraverse}
 use Rattle.desk.specs.Answer.{stopped, good, checkedAngles, firstOf, closesOn, second, secondWords, firstFor, traversedBy, wordsAfterFirst, traversedWordsBy}
 use Rattle.desk.specs.Traverse.{placed, offsetsTo, areaOf}
 use Rattle.desk.proofs.Accepted.{Accepted, accepted, accepted-told}
@@ -36,6 +35,7 @@ abbrev bareTraverse : Balanced → Balanced
 bareTraverse b =
     record {
       legs = b .legs;
+      angles = b .angles;
       w = b .w;
       azimuths = b .azimuths;
       distances = b .distances;
@@ -47,23 +47,13 @@ bareTraverse b =
 
 -- ---- the first step
 module _ (f : Fields) where
-  carried-bare : (k : ℕ) → carried f k ≡ carried (bare f) k
-  unfolding carried
-  carried-bare zero = refl
-  carried-bare (suc k) = ap (λ (a : ℕ). onward a (angleAt f (suc k))) (carried-bare k)
-
   misclosure-bare : misclosureOf f ≡ misclosureOf (bare f)
   unfolding misclosureOf
-  misclosure-bare = rw (carried-bare (f .legs))
-
-  filled-bare : (n : ℕ) → filled (balancedOf f) n zeros ≡ filled (balancedOf (bare f)) n zeros
-  unfolding filled balancedOf
-  filled-bare zero = refl
-  filled-bare (suc n) = rw (filled-bare n, carried-bare n, misclosure-bare)
+  misclosure-bare = refl
 
   traverse-bare : bareTraverse (balancedTraverse f) ≡ balancedTraverse (bare f)
   unfolding balancedTraverse
-  traverse-bare = rw (misclosure-bare, filled-bare (f .legs))
+  traverse-bare = rw misclosure-bare
 
   angles-bare : closesAngles (misclosureOf f) (f .legs) ≡ closesAngles (misclosureOf (bare f)) (f .legs)
   angles-bare = rw misclosure-bare

@@ -1,10 +1,11 @@
--- Azimuths along the legs: a step whose input is in range gives its value, and that is within the circle, being a remainder by it. So all azimuths
--- are, and a list in which the first legs are balanced still has the carried azimuth of each later one.
-use Prim.Native.Nat.{ℕ, zero, suc, _+_, _%_, _≤_, _<_}
+-- The steps of the angles: one whose input is in range gives its value, and an azimuth is within
+-- the circle, being a remainder by it. A list in which the first legs are balanced still has the
+-- carried azimuth of each later one.
+use Prim.Native.Nat.{ℕ, _+_, _-_, _%_, _≤_, _<_}
 use native.Mathlib.Omega.{arith}
 use native.Mathlib.Nat.{mod-lt}
 use mathlib.Core.Path.{_≡_, _∙_, ap}
-use mathlib.Core.Bool.{Bool}
+use mathlib.Core.Bool.{Bool, true}
 use mathlib.Core.List.{List, [], _∷_}
 use borrow.Author.Tests.{le-leb, lt-ltb}
 use lib.ListN.{length, getD, set, length-replicate}
@@ -14,19 +15,21 @@ use Rattle.whole.proofs.Diff.{vars, ints, abs-under, le, lt}
 use Rattle.answer.specs.declared.Amount.{Amount}
 use Rattle.answer.specs.declared.Count.{Count}
 use Rattle.answer.specs.declared.Verdict.{Verdict}
-use Rattle.answer.specs.Told.{told, toldCount, toldVerdict, passes}
+use Rattle.answer.specs.Told.{told, toldCount, toldVerdict, inside, passes}
 use Rattle.answer.proofs.Telling.{value-given, verdict-given, both, inside-yes}
 use Rattle.minutes.specs.Quadrant.{circle}
 use Rattle.steps.specs.Azimuth.{halfCircle, misclosure, closesAngles, balanced, ofAngles, misclosureStep, misclosureTest, balancedStep}
 use Rattle.steps.specs.Share.{share, angleShareStep}
 use Rattle.steps.proofs.Sharing.{share-most}
-use Rattle.steps.proofs.Turning.{turn-is, misclosure-is}
-use Rattle.desk.specs.Angles.{carried, misclosureOf, balancedOf, zeros, balancedTraverse}
+use Rattle.steps.proofs.Turning.{misclosure-is}
+use Rattle.desk.specs.Angles.{turnsOf, misclosureOf, zeros, balancedTraverse}
 use Rattle.desk.specs.Traverse.{azimuthOf}
+use Rattle.desk.specs.Turns.{balancedAt}
 use Rattle.desk.specs.Inside.{Ready, Sound, AllTurned, balancedBy, balancedIn}
 use Rattle.tape.specs.Fields.{Fields}
-use Rattle.whole.proofs.Filling.{filled-length, filled-at, filled-behind, filled-on}
+use Rattle.whole.proofs.Filling.{filled-length, filled-behind, filled-on}
 use Rattle.desk.proofs.Scaling.{combined-range}
+use Rattle.desk.proofs.Turning.{balanced-most, balanced-at-turned, filled-balanced-at}
 
 -- ---- an azimuth from two angles
 module _ (r : Count) (n a b x : ℕ) (e : toldCount r ≡ ofAngles a b (pos (x % circle))) (f : pos n ≡ toldCount r .value) (h : a < circle) (i : b < circle) where
@@ -49,46 +52,50 @@ angles-close r x w n t f small low high =
     verdict-given (toldVerdict r) _ x (closesAngles w n) t (both _ _ (le-leb (natAbs w) 6480000 small) (inside-yes 1 64 n low high)) f
 
 -- ---- the balanced azimuth of a leg
-balanced-most : (azimuth : ℕ) (s : ℤ) → balanced azimuth s < circle
-unfolding balanced
-balanced-most azimuth s = turn-is _ .low
+module _ (p : Amount) (r : Count) (n azimuth j angles : ℕ) (s w : ℤ)
+    (f : pos n ≡ toldCount r .value) (e : toldCount r ≡ balancedStep azimuth s)
+    (i : s ≡ told p .value) (g : told p ≡ angleShareStep w j (angles - 1))
+    (turned : azimuth < circle) (small : natAbs w ≤ 6480000)
+    (reach : j ≤ angles) (some : 2 ≤ angles) (few : angles ≤ 65) where
+  one-more : angles - 1 + 1 ≡ angles
+  one-more = omega arith
 
-module _ (p : Amount) (r : Count) (n azimuth k legs : ℕ) (s w : ℤ) (f : pos n ≡ toldCount r .value) (e : toldCount r ≡ balancedStep azimuth s)
-    (i : s ≡ told p .value) (g : told p ≡ angleShareStep w (k + 1) legs) (turned : azimuth < circle) (small : natAbs w ≤ 6480000) (low : k < legs) (few : legs ≤ 64) where
-  part-is : s ≡ share w (k + 1) (legs + 1)
+  in-range : inside 1 64 (angles - 1) ≡ true
+  in-range = inside-yes 1 64 (angles - 1) (omega arith) (omega arith)
+
+  part-is : s ≡ share w j angles
   part-is =
       i ∙ value-given (told p) _ _ g
-      (both _ _ (both _ _ (le-leb (natAbs w) 6480000 small) (inside-yes 1 64 legs (omega arith) few)) (le-leb (k + 1) (legs + 1) (omega arith)))
+      (both _ _ (both _ _ (le-leb (natAbs w) 6480000 small) in-range)
+      (le-leb j (angles - 1 + 1) (omega arith)))
+      ∙ ap (share w j) one-more
 
   part-small : natAbs s ≤ 6480000
-  part-small = rw part-is (omega (arith, share-most w (legs + 1) (omega arith) (k + 1) (omega arith)))
+  part-small = rw part-is (omega (arith, share-most w angles (omega arith) j reach))
 
-  pub balanced-is : n ≡ balanced azimuth (share w (k + 1) (legs + 1))
+  pub balanced-is : n ≡ balanced azimuth (share w j angles)
   balanced-is =
       ap natAbs (f ∙ value-given (toldCount r) _ _ e (both _ _ (lt-ltb azimuth circle turned) (le-leb (natAbs s) 6480000 part-small)))
       ∙ ap (balanced azimuth) part-is
 
   pub balanced-turned : n < circle
-  balanced-turned = rw balanced-is (balanced-most azimuth (share w (k + 1) (legs + 1)))
+  balanced-turned = rw balanced-is (balanced-most azimuth (share w j angles))
 
--- ---- the azimuths carried along the legs, and in the place of each the balanced one
-pub carried-turned : (f : Fields) (k : ℕ) → carried f k < circle
-unfolding carried
-carried-turned f zero = mod-lt _ (omega arith)
-carried-turned f (suc k) = mod-lt _ (omega arith)
-
-module _ (w : ℤ) (legs k : ℕ) (l m : List ℕ) (h : k < legs) (t : AllTurned legs l) (e : m ≡ balancedIn w legs k l) where
+-- ---- in the place of each azimuth the balanced one
+module _ (w : ℤ) (legs ahead angles k : ℕ) (l m : List ℕ) (h : k < legs) (t : AllTurned legs l)
+    (e : m ≡ balancedIn w ahead angles k l) where
   pub balancing-room : k < length m
-  balancing-room = rw e (omega (arith, filled-length (balancedBy w legs l) l k, t .room))
+  balancing-room = rw e (omega (arith, filled-length (balancedBy w ahead angles l) l k, t .room))
 
   unbalanced-yet : getD m k 0 ≡ getD l k 0
-  unbalanced-yet = rw e (filled-behind (balancedBy w legs l) l k k (omega arith))
+  unbalanced-yet = rw e (filled-behind (balancedBy w ahead angles l) l k k (omega arith))
 
   pub balancing-turned : getD m k 0 < 12960000
   balancing-turned = rw unbalanced-yet (t .each k h)
 
-  pub balancing-next : (r : ℕ) → r ≡ balanced (getD m k 0) (share w (k + 1) (legs + 1)) → set m k r ≡ balancedIn w legs (k + 1) l
-  balancing-next r g = filled-on (balancedBy w legs l) l k r m e (g ∙ rw unbalanced-yet)
+  pub balancing-next : (r : ℕ) → r ≡ balanced (getD m k 0) (share w (k + ahead) angles)
+      → set m k r ≡ balancedIn w ahead angles (k + 1) l
+  balancing-next r g = filled-on (balancedBy w ahead angles l) l k r m e (g ∙ rw unbalanced-yet)
 
 -- ---- the misclosure
 module _ (r : Amount) (v : ℤ) (closing given : ℕ) (g : v ≡ told r .value) (e : told r ≡ misclosureStep closing given) (h : closing < circle) (i : given < circle) where
@@ -101,12 +108,15 @@ module _ (r : Amount) (v : ℤ) (closing given : ℕ) (g : v ≡ told r .value) 
 -- ---- the traverse with its angles balanced
 module _ (f : Fields) where
   -- the azimuth that leg k has in it is its balanced one
-  leg-azimuth : (k : ℕ) → k < f .legs → f .legs ≤ 64 → azimuthOf (balancedTraverse f) k ≡ balancedOf f k
+  leg-azimuth : (k : ℕ) → k < f .legs → f .legs ≤ 64
+      → azimuthOf (balancedTraverse f) k ≡ balancedAt (turnsOf f) (misclosureOf f) k
   unfolding balancedTraverse
-  leg-azimuth k h few = filled-at (balancedOf f) zeros (f .legs) k (omega (arith, length-replicate {A = ℕ} 64 0)) h
+  leg-azimuth k h few =
+      let room : f .legs ≤ length zeros = omega (arith, length-replicate {A = ℕ} 64 0) in
+      filled-balanced-at (turnsOf f) (f .legs) zeros room (misclosureOf f) k h
 
   pub sound-of : Ready f → Sound (balancedTraverse f)
-  unfolding balancedTraverse balancedOf
+  unfolding balancedTraverse
   sound-of r =
       let s = combined-range (f .elevation .v) (f .scale) (r .elevation) (r .scale-low) (r .scale-high) in
       record {
@@ -119,7 +129,7 @@ module _ (f : Fields) where
               most = s .1;
               far = r .far k h;
               near = r .near k h;
-              turned = rw (leg-azimuth k h (r .few)) (balanced-most (carried f k) (share (misclosureOf f) (k + 1) (f .legs + 1)));
+              turned = rw (leg-azimuth k h (r .few)) (balanced-at-turned (turnsOf f) _ k);
             };
         from = r .from;
         to = r .to;

@@ -2,7 +2,7 @@
 -- takes there are the fields' own; the azimuths carried with them are the carried ones, and what is left in the lists is the traverse with its angles balanced.
 use Prim.Native.Nat.{ℕ, _+_, _-_, _*_, _≤_, _<_}
 use native.Mathlib.Omega.{arith}
-use native.Mathlib.Numerals.{add-one}
+use native.Mathlib.Nat.{mod-lt}
 use mathlib.Core.Path.{_≡_, refl, sym, _∙_, ap, subst}
 use mathlib.Core.Bool.{Bool, true, false}
 use mathlib.Core.List.{List}
@@ -10,20 +10,21 @@ use lib.ListN.{length, getD, set, length-replicate, getD-replicate}
 use lib.IntN.{ℤ, natAbs}
 use Rattle.whole.specs.declared.Whole.{Whole}
 use Rattle.minutes.specs.Quadrant.{circle}
-use Rattle.steps.specs.Azimuth.{fromMark, onward, misclosure, closesAngles, balanced}
-use Rattle.steps.specs.Share.{share}
+use Rattle.steps.specs.Azimuth.{fromMark, onward, misclosure, closesAngles}
 use Rattle.tape.specs.Fields.{Fields, fieldsOf}
 use Rattle.records.specs.Bytes.{fourAt}
 use Rattle.whole.specs.Filled.{filled}
-use Rattle.desk.specs.Angles.{angleAt, carried, misclosureOf, balancedOf, zeros, Balanced, balancedTraverse}
+use Rattle.desk.specs.Angles.{angleAt, turnsOf, misclosureOf, zeros, balancedTraverse}
 use Rattle.desk.specs.Answer.{stopped, good, checkedAngles}
-use Rattle.desk.specs.Inside.{Known, Placeable, Ready, Scaled, AllTurned, distanceAt, balancedBy, balancedIn, frameOf, withLegs}
+use Rattle.desk.specs.Inside.{Known, Placeable, Ready, Scaled, AllTurned, distanceAt}
+use Rattle.desk.specs.Inside.{balancedIn, frameOf, withLegs}
+use Rattle.desk.specs.Turns.{Turns, carried, balancedAt}
 use Rattle.tape.specs.declared.Control.{Control}
 use Rattle.desk.specs.declared.Frame.{Frame}
 use Rattle.tape.proofs.Legs.{legs-before, close-within, short, angle-there, distance-there, distances-length, distances-behind}
-use Rattle.desk.proofs.Balancing.{carried-turned}
-use Rattle.whole.proofs.Filling.{filled-length, filled-at, filled-on, filled-last, filled-is, filled-over}
+use Rattle.whole.proofs.Filling.{filled-on, filled-last, filled-is}
 use Rattle.desk.proofs.Stepping.{tape-ready}
+use Rattle.desk.proofs.Turning.{carried-on, carried-turned, filled-turned, filled-balanced}
 
 -- the lists have a place for every leg
 pub legs-room : (z : List ℕ) (c : Control) → Placeable c → z ≡ zeros → c .legs ≤ length z
@@ -32,6 +33,9 @@ legs-room z c p e = omega (arith, p .few, ap length e, length-replicate {A = ℕ
 module _ (tape : List ℕ) (c : Control) (known : Known tape c) where
   abbrev f : Fields
   f = fieldsOf tape
+
+  abbrev t : Turns
+  t = turnsOf f
 
   ready : Ready f
   ready = tape-ready tape (known .reads)
@@ -84,7 +88,7 @@ module _ (tape : List ℕ) (c : Control) (known : Known tape c) where
     pub first-turned : n < circle
     first-turned = angle-turned 0 at (omega arith) first-there n g
 
-    pub carried-first : (r : ℕ) → r ≡ fromMark (c .mark) n → r ≡ carried f 0
+    pub carried-first : (r : ℕ) → r ≡ fromMark (c .mark) n → r ≡ carried t 0
     unfolding carried
     carried-first r i = i ∙ rw (angle-at 0 at (omega arith) first-there n g, known .is)
 
@@ -93,44 +97,46 @@ module _ (tape : List ℕ) (c : Control) (known : Known tape c) where
       pub next-turned : n < circle
       next-turned = angle-turned (k + 1) (at + 9) (omega arith) (omega arith) n g
 
-      pub carried-next : (a r : ℕ) → r ≡ onward a n → a ≡ carried f k → r ≡ carried f (k + 1)
-      unfolding carried
-      carried-next a r i j = i ∙ rw (j, angle-at (k + 1) (at + 9) (omega arith) (omega arith) n g, add-one k)
+      pub carried-next : (a r : ℕ) → r ≡ onward a n → a ≡ carried t k → r ≡ carried t (k + 1)
+      carried-next a r i j =
+          let angle = angle-at (k + 1) (at + 9) (omega arith) (omega arith) n g in
+          i ∙ rw (j, angle) (carried-on t k)
 
     pub distance-next : (l m : List ℕ) → n ≡ fourAt tape (at + 5) → l ≡ filled (distanceAt f) k m → set l k n ≡ filled (distanceAt f) (k + 1) m
     distance-next l m g i =
         filled-on (distanceAt f) m k n l i (g ∙ distance-there tape (known .reads) k at (omega (arith, legs-is)) (there k at (omega arith) e))
 
-  pub carried-last : (k a : ℕ) → k ≤ c .legs → c .legs ≤ k → a ≡ carried f k → a ≡ carried f (c .legs)
-  carried-last k a h i e = let j : k ≡ c .legs = omega arith in subst (λ (n : ℕ). a ≡ carried f n) j e
+  pub carried-last : (k a : ℕ) → k ≤ c .legs → c .legs ≤ k → a ≡ carried t k
+      → a ≡ carried t (c .legs)
+  carried-last k a h i e =
+      let j : k ≡ c .legs = omega arith in subst (λ (n : ℕ). a ≡ carried t n) j e
 
-  pub closing-turned : (a : ℕ) → a ≡ carried f (c .legs) → a < circle
-  closing-turned a e = rw e (carried-turned f (c .legs))
+  leg-one-turned : t .first < circle
+  leg-one-turned = mod-lt _ (omega arith)
+
+  pub closing-turned : (a : ℕ) → a ≡ carried t (c .legs) → a < circle
+  closing-turned a e = rw e (carried-turned t leg-one-turned (c .legs))
 
   -- ---- the lists
   few : f .legs ≤ length zeros
   few = omega (arith, length-replicate {A = ℕ} 64 0, ready .few)
 
-  module _ (l : List ℕ) (g : l ≡ filled (carried f) (c .legs) zeros) where
-    azimuths-carried : l ≡ filled (carried f) (f .legs) zeros
+  module _ (l : List ℕ) (g : l ≡ filled (carried t) (c .legs) zeros) where
+    azimuths-carried : l ≡ filled (carried t) (f .legs) zeros
     azimuths-carried = rw legs-is at g
 
     pub all-turned : AllTurned (c .legs) l
-    all-turned =
-        rw (legs-is, azimuths-carried)
-        (record {
-          room = omega (arith, filled-length (carried f) zeros (f .legs), few);
-          each = λ k h. rw (filled-at (carried f) zeros (f .legs) k few h) (carried-turned f k);
-        })
+    all-turned = rw (legs-is, azimuths-carried) (filled-turned t (f .legs) zeros few leg-one-turned)
 
-    azimuths-balanced : (w : ℤ) (m : List ℕ) → m ≡ balancedIn w (c .legs) (c .legs) l → w ≡ misclosureOf f → m ≡ filled (balancedOf f) (f .legs) zeros
-    unfolding balancedOf
+    azimuths-balanced : (w : ℤ) (m : List ℕ) → m ≡ balancedIn w 1 (c .legs + 1) (c .legs) l
+        → w ≡ misclosureOf f → m ≡ filled (balancedAt t (misclosureOf f)) (f .legs) zeros
     azimuths-balanced w m i j =
         rw (legs-is, azimuths-carried, j) at i
-        ∙ filled-over (carried f) (balancedBy (misclosureOf f) (f .legs) (filled (carried f) (f .legs) zeros)) (balancedOf f) zeros (f .legs) few (λ k h. rw (filled-at (carried f) zeros (f .legs) k few h))
+        ∙ filled-balanced t (f .legs) zeros few (misclosureOf f)
 
-  pub azimuths-last : (k : ℕ) (z l : List ℕ) → k ≤ c .legs → c .legs ≤ k → z ≡ zeros → l ≡ filled (carried f) k z → l ≡ filled (carried f) (c .legs) zeros
-  azimuths-last k z l h i e g = filled-last (carried f) zeros k (c .legs) l h i (rw e at g)
+  pub azimuths-last : (k : ℕ) (z l : List ℕ) → k ≤ c .legs → c .legs ≤ k → z ≡ zeros
+      → l ≡ filled (carried t) k z → l ≡ filled (carried t) (c .legs) zeros
+  azimuths-last k z l h i e g = filled-last (carried t) zeros k (c .legs) l h i (rw e at g)
 
   pub distances-last : (k : ℕ) (z l : List ℕ) → k ≤ c .legs → c .legs ≤ k → z ≡ zeros → l ≡ filled (distanceAt f) k z → l ≡ f .distances
   distances-last k z l h i e g =
@@ -139,15 +145,17 @@ module _ (tape : List ℕ) (c : Control) (known : Known tape c) where
       (λ k h i. getD-replicate 64 k 0 0 (omega (arith, length-replicate {A = ℕ} 64 0)) ∙ sym (distances-behind tape (known .reads) k h))
 
   -- ---- the answer, by the test
-  module _ (x : Bool) (w : Whole) (a : ℕ) (t : x ≡ closesAngles (w .v) (c .legs)) (i : w .v ≡ misclosure a (c .given)) (j : a ≡ carried f (c .legs)) where
+  module _ (x : Bool) (w : Whole) (a : ℕ) (tested : x ≡ closesAngles (w .v) (c .legs))
+      (i : w .v ≡ misclosure a (c .given)) (j : a ≡ carried t (c .legs)) where
     misclosure-known : w .v ≡ misclosureOf f
     unfolding misclosureOf
     misclosure-known = i ∙ rw (j, known .is)
 
     test-known : x ≡ closesAngles (misclosureOf f) (f .legs)
-    test-known = rw (← misclosure-known, ← legs-is) t
+    test-known = rw (← misclosure-known, ← legs-is) tested
 
-    pub checked-good : (b : Frame) (l m d : List ℕ) → x ≡ true → b ≡ frameOf c w → l ≡ filled (carried f) (c .legs) zeros → m ≡ balancedIn (w .v) (c .legs) (c .legs) l
+    pub checked-good : (b : Frame) (l m d : List ℕ) → x ≡ true → b ≡ frameOf c (c .legs + 1) w
+        → l ≡ filled (carried t) (c .legs) zeros → m ≡ balancedIn (w .v) 1 (c .legs + 1) (c .legs) l
         → d ≡ f .distances → good (withLegs b m d) ≡ checkedAngles f
     unfolding checkedAngles balancedTraverse
     checked-good b l m d h e g i j = rw (← test-known, h, e, azimuths-balanced l g (w .v) m i misclosure-known, j, known .is, ← misclosure-known)

@@ -18,4 +18,5 @@ pub mod Single
 pub mod StationLines
 pub mod Stations
 pub mod Stepping
+pub mod Turning
 pub mod Words

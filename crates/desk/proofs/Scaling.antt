@@ -77,6 +77,16 @@ module _ (r : Count) (n sea scale : ℕ) (low : 9990000 ≤ sea) (high : sea ≤
   combined-high = let m = combined-most sea scale low high least most in rw combined-told (omega (arith, m .1))
 
 -- ---- the factor in its place
-pub frame-is : (c : Control) (w : Whole) (n : ℕ) → n ≡ combine (seaLevel (c .elevation .v)) (c .scale)
-    → record { legs = c .legs; w = w; factor = n; from = c .from; to = c .to; place = c .place } ≡ frameOf c w
-frame-is c w n e = rw e
+pub frame-is : (c : Control) (angles : ℕ) (w : Whole) (n : ℕ)
+    → n ≡ combine (seaLevel (c .elevation .v)) (c .scale)
+    → record {
+      legs = c .legs;
+      angles = angles;
+      w = w;
+      factor = n;
+      from = c .from;
+      to = c .to;
+      place = c .place;
+    }
+    ≡ frameOf c angles w
+frame-is c angles w n e = rw e

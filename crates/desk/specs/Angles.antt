@@ -1,42 +1,46 @@
 -- Paper 01, "Azimuths and legs", over the fields of a tape: the azimuths carried along the legs, the misclosure W, and the balanced azimuths. Legs are
 -- numbered by the station that they leave, from 0; the angle at the last station is the closing one.
-use Prim.Native.Nat.{ℕ, zero, suc, _+_}
+use Prim.Native.Nat.{ℕ, _+_}
 use mathlib.Core.List.{List}
 use lib.ListN.{getD, replicate}
 use lib.IntN.{ℤ}
 use Rattle.whole.specs.Filled.{filled}
-use Rattle.steps.specs.Azimuth.{fromMark, onward, misclosure, balanced}
+use Rattle.steps.specs.Azimuth.{fromMark, misclosure}
 use Rattle.steps.specs.Distance.{seaLevel, combine}
-use Rattle.steps.specs.Share.{share}
 use Rattle.tape.specs.Fields.{Fields}
 use Rattle.tape.specs.declared.Point.{Point}
 use Rattle.whole.specs.declared.Whole.{Whole}
+use Rattle.desk.specs.Turns.{Turns, carried, balancedAt}
 
 abbrev pub angleAt : Fields → ℕ → ℕ
 angleAt f k = getD (f .angles) k 0
 
--- "Leg 1: azimuth to the mark plus its angle right. Each next leg: the azimuth before, plus 180 degrees, plus its angle. The closing azimuth likewise
--- with the closing angle"
-unfoldable pub carried : Fields → ℕ → ℕ
-carried f zero = fromMark (f .mark) (angleAt f zero)
-carried f (suc k) = onward (carried f k) (angleAt f (suc k))
+-- the angles of a tape. "Leg 1: azimuth to the mark plus its angle right": that angle stands before
+-- leg 1. "Share of W at the j-th of n+1 angles": leg k is at the (k+1)-th
+abbrev pub turnsOf : Fields → Turns
+turnsOf f =
+    record {
+      legs = f .legs;
+      first = fromMark (f .mark) (angleAt f 0);
+      angles = f .angles;
+      shared = f .legs + 1;
+      ahead = 1;
+    }
 
 -- "Misclosure W = carried less given"
 unfoldable pub misclosureOf : Fields → ℤ
-misclosureOf f = misclosure (carried f (f .legs)) (f .given)
-
--- "Share of W at the j-th of n+1 angles"; "the balanced azimuth of leg j is the carried one less that share": leg k is the (k+1)-th
-unfoldable pub balancedOf : Fields → ℕ → ℕ
-balancedOf f k = balanced (carried f k) (share (misclosureOf f) (k + 1) (f .legs + 1))
+misclosureOf f = misclosure (carried (turnsOf f) (f .legs)) (f .given)
 
 -- the list before any leg is balanced
 abbrev pub zeros : List ℕ
 zeros = replicate 64 0
 
--- a traverse whose angles are balanced: the misclosure W, the balanced azimuth and the measured distance of each leg, the combined factor, the two fixed
--- points, and the place of the close
+-- a traverse whose angles are balanced: how many angles share W, the misclosure W, the balanced
+-- azimuth and the measured distance of each leg, the combined factor, the two fixed points, and the
+-- place of the close
 pub record Balanced : Type 0 where
   pub legs : ℕ
+  pub angles : ℕ
   pub w : Whole
   pub azimuths : List ℕ
   pub distances : List ℕ
@@ -50,8 +54,9 @@ unfoldable pub balancedTraverse : Fields → Balanced
 balancedTraverse f =
     record {
       legs = f .legs;
+      angles = turnsOf f .shared;
       w = record { v = misclosureOf f };
-      azimuths = filled (balancedOf f) (f .legs) zeros;
+      azimuths = filled (balancedAt (turnsOf f) (misclosureOf f)) (f .legs) zeros;
       distances = f .distances;
       factor = combine (seaLevel (f .elevation .v)) (f .scale);
       from = f .from;

@@ -54,13 +54,31 @@ pub record Scaled (c : Control) : Type 0 where
   pub scale : (9990000 ≤ c .scale) × (c .scale ≤ 10010000)
 
 -- the traverse with its angles balanced, but for its legs; and with them
-abbrev pub frameOf : Control → Whole → Frame
-frameOf c w =
-    record { legs = c .legs; w = w; factor = combine (seaLevel (c .elevation .v)) (c .scale); from = c .from; to = c .to; place = c .place }
+abbrev pub frameOf : Control → ℕ → Whole → Frame
+frameOf c angles w =
+    record {
+      legs = c .legs;
+      angles = angles;
+      w = w;
+      factor = combine (seaLevel (c .elevation .v)) (c .scale);
+      from = c .from;
+      to = c .to;
+      place = c .place;
+    }
 
 abbrev pub withLegs : Frame → List ℕ → List ℕ → Balanced
 withLegs b azimuths distances =
-    record { legs = b .legs; w = b .w; azimuths = azimuths; distances = distances; factor = b .factor; from = b .from; to = b .to; place = b .place }
+    record {
+      legs = b .legs;
+      angles = b .angles;
+      w = b .w;
+      azimuths = azimuths;
+      distances = distances;
+      factor = b .factor;
+      from = b .from;
+      to = b .to;
+      place = b .place;
+    }
 
 -- what the first step has found, the legs in two lists
 abbrev pub checkedAs : Checked → List ℕ → List ℕ → First
@@ -72,12 +90,19 @@ pub record AllTurned (legs : ℕ) (azimuths : List ℕ) : Type 0 where
   pub room : legs ≤ length azimuths
   pub each : (k : ℕ) → k < legs → getD azimuths k 0 < circle
 
--- the balanced azimuth of leg k, the carried ones in a list; and the list with its first k azimuths balanced
-abbrev pub balancedBy : ℤ → ℕ → List ℕ → ℕ → ℕ
-balancedBy w legs azimuths k = balanced (getD azimuths k 0) (share w (k + 1) (legs + 1))
+-- the balanced azimuth of leg k, the carried ones in a list: `ahead` angles stand before leg 1, and
+-- `angles` share W; and the list with its first k azimuths balanced
+abbrev pub balancedBy : ℤ → ℕ → ℕ → List ℕ → ℕ → ℕ
+balancedBy w ahead angles azimuths k = balanced (getD azimuths k 0) (share w (k + ahead) angles)
 
-abbrev pub balancedIn : ℤ → ℕ → ℕ → List ℕ → List ℕ
-balancedIn w legs k azimuths = filled (balancedBy w legs azimuths) k azimuths
+abbrev pub balancedIn : ℤ → ℕ → ℕ → ℕ → List ℕ → List ℕ
+balancedIn w ahead angles k azimuths = filled (balancedBy w ahead angles azimuths) k azimuths
+
+-- 2 to 65 angles that share W, and each leg is at one of them
+pub record Shareable (legs ahead angles : ℕ) : Type 0 where
+  pub some : 2 ≤ angles
+  pub few : angles ≤ 65
+  pub reach : legs + ahead ≤ angles
 
 -- fields in the ranges of the tape
 pub record Ready (f : Fields) : Type 0 where

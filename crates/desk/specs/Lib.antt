@@ -1,3 +1,4 @@
+pub mod Turns
 pub mod Angles
 pub mod Answer
 pub mod Line

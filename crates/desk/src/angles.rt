@@ -10,8 +10,10 @@ ghost use Rattle.steps.specs.Azimuth.{fromMark, onward, misclosure, closesAngle
 ghost use Rattle.steps.specs.Share.{share};
 ghost use Rattle.tape.specs.Fields.{fieldsOf};
 ghost use Rattle.whole.specs.Filled.{filled};
-ghost use Rattle.desk.specs.Angles.{carried, zeros};
-ghost use Rattle.desk.specs.Inside.{Known, Placeable, Scaled, AllTurned, balancedIn, frameOf};
+ghost use Rattle.desk.specs.Angles.{turnsOf, zeros};
+ghost use Rattle.desk.specs.Inside.{Known, Placeable, Scaled, AllTurned, Shareable};
+ghost use Rattle.desk.specs.Inside.{balancedIn, frameOf};
+ghost use Rattle.desk.specs.Turns.{carried};
 
 // The azimuth of leg 1, and of each next leg.
 fn first(mark: u32, angle: u32) -> u32
@@ -36,8 +38,9 @@ pub fn carry(tape: &[u8], c: Control, azimuths: &mut [u32], distances: &mut [u32
     requires { ⌜ Known (now tape) c ⌝ }
     requires { ⌜ Placeable c ⌝ }
     requires { ⌜ (now azimuths ≡ zeros) × (now distances ≡ zeros) ⌝ }
-    ensures closing { λ r. ⌜ r ≡ carried (fieldsOf (now (tape .entry))) (c .legs) ⌝ }
-    ensures azimuths { λ r. ⌜ now (azimuths .exit) ≡ filled (carried (fieldsOf (now (tape .entry)))) (c .legs) zeros ⌝ }
+    ensures closing { λ r. ⌜ r ≡ carried (turnsOf (fieldsOf (now (tape .entry)))) (c .legs) ⌝ }
+    ensures azimuths { λ r. ⌜ now (azimuths .exit)
+        ≡ filled (carried (turnsOf (fieldsOf (now (tape .entry))))) (c .legs) zeros ⌝ }
     ensures distances { λ r. ⌜ now (distances .exit) ≡ fieldsOf (now (tape .entry)) .distances ⌝ }
 {
     let mut at = c.place - 9 * c.legs;
@@ -70,41 +73,45 @@ pub fn angles_close(w: Whole, legs: usize) -> bool
     steps::azimuth::closes_angles(w, legs as u64).value()
 }
 
-// The balanced azimuth of leg k, whose carried one is given.
-fn balanced_leg(azimuth: u32, w: Whole, k: usize, legs: usize) -> u32
+// The balanced azimuth of a leg at the j-th of the angles that share W; its carried one is given.
+fn balanced_leg(azimuth: u32, w: Whole, j: usize, angles: usize) -> u32
     requires { ⌜ azimuth < 12960000 ⌝ }
     requires { ⌜ natAbs (w .v) ≤ 6480000 ⌝ }
-    requires { ⌜ (k < legs) × (legs ≤ 64) ⌝ }
-    ensures is { λ r. ⌜ r ≡ balanced azimuth (share (w .v) (k + 1) (legs + 1)) ⌝ }
+    requires { ⌜ (j ≤ angles) × (2 ≤ angles) × (angles ≤ 65) ⌝ }
+    ensures is { λ r. ⌜ r ≡ balanced azimuth (share (w .v) j angles) ⌝ }
     ensures turned { λ r. ⌜ r < 12960000 ⌝ }
 {
-    let part = steps::share::angle_share(w, (k + 1) as u64, legs as u64).value();
+    let part = steps::share::angle_share(w, j as u64, (angles - 1) as u64).value();
     steps::azimuth::balanced(azimuth, part).value() as u32
 }
 
-// The balanced azimuths of all legs, in the place of the carried ones.
-pub fn balance(w: Whole, legs: usize, azimuths: &mut [u32])
-    requires { ⌜ (natAbs (w .v) ≤ 6480000) × (legs ≤ 64) ⌝ }
+// The balanced azimuths of all legs, in the place of the carried ones. `ahead` angles stand before
+// leg 1, and `angles` share W.
+pub fn balance(w: Whole, legs: usize, ahead: usize, angles: usize, azimuths: &mut [u32])
+    requires { ⌜ natAbs (w .v) ≤ 6480000 ⌝ }
+    requires { ⌜ Shareable legs ahead angles ⌝ }
     requires { ⌜ AllTurned legs (now azimuths) ⌝ }
-    ensures { λ r. ⌜ now (azimuths .exit) ≡ balancedIn (w .v) legs legs (now (azimuths .entry)) ⌝ }
+    ensures { λ r. ⌜ now (azimuths .exit)
+        ≡ balancedIn (w .v) ahead angles legs (now (azimuths .entry)) ⌝ }
 {
     let mut k: usize = 0;
     while k < legs {
-        azimuths[k] = balanced_leg(azimuths[k], w, k, legs);
+        azimuths[k] = balanced_leg(azimuths[k], w, k + ahead, angles);
         k = k + 1;
     }
 }
 
-// The traverse with its angles balanced, but for its legs.
-pub fn frame(c: Control, w: Whole) -> Frame
+// The traverse with its angles balanced, but for its legs; `angles` of them share W.
+pub fn frame(c: Control, angles: usize, w: Whole) -> Frame
     requires { ⌜ Scaled c ⌝ }
-    ensures { λ r. ⌜ r ≡ frameOf c w ⌝ }
+    ensures { λ r. ⌜ r ≡ frameOf c angles w ⌝ }
 {
     let factor = factor::combined(c.elevation, c.scale);
     let from = c.from;
     let to = c.to;
     Frame {
         legs: c.legs,
+        angles,
         w,
         factor,
         from,

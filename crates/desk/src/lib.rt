@@ -13,11 +13,14 @@ ghost use Rattle.desk.specs.Sheet.{shown, shownBytes, over, Showed, prin
 ghost use Rattle.minutes.specs.Entry.{entry};
 ghost use Rattle.sines.specs.Sine.{entryIn};
 
-// A traverse whose angles are balanced, but for its legs: the misclosure W, the combined factor, the two fixed points, and the place of the close. The
-// balanced azimuth and the measured distance of each leg stand in two lists beside it, since a structure is copied wherever it is handed on. No latitude,
-// departure or place of a station stands in it.
+// A traverse whose angles are balanced, but for its legs: how many angles share W, which the second
+// step takes from here, the misclosure W, the combined factor, the two fixed points, and the place
+// of the close. The balanced azimuth and the measured distance of each leg stand in two lists
+// beside it, since a structure is copied wherever it is handed on. No latitude, departure or place
+// of a station stands in it.
 pub struct Frame {
     pub legs: usize,
+    pub angles: usize,
     pub w: Whole,
     pub factor: u32,
     pub from: Point,

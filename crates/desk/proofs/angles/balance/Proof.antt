@@ -12,10 +12,12 @@ use Rattle.desk.proofs.angles.balance.Statement.{statement}
 use Rattle.desk.proofs.angles.balance.Tie as tie
 
 abbrev Inv-loop : tie.InvT-loop
-Inv-loop w legs azimuths₀ k₀ azimuths k = (k ≤ legs) × (azimuths ≡ balancedIn (w .v) legs k azimuths₀) × (length azimuths ≡ length azimuths₀)
+Inv-loop w legs ahead angles azimuths₀ k₀ azimuths k =
+    (k ≤ legs) × (azimuths ≡ balancedIn (w .v) ahead angles k azimuths₀)
+    × (length azimuths ≡ length azimuths₀)
 
 abbrev μ-loop : tie.MeasureT-loop
-μ-loop w legs azimuths₀ k₀ azimuths k = legs - k
+μ-loop w legs ahead angles azimuths₀ k₀ azimuths k = legs - k
 
 loop-holds : tie.Need-loop-holds Inv-loop μ-loop
 unfolding filled
@@ -26,6 +28,9 @@ mul-balanced-leg c = search needs
 
 slice-read-balanced-leg : tie.Need-slice-read-balanced-leg Inv-loop μ-loop
 slice-read-balanced-leg c = search balancing-room
+
+add-balanced-leg : tie.Need-add-balanced-leg Inv-loop μ-loop
+add-balanced-leg c = search needs
 
 balanced-leg-requires : tie.Need-balanced-leg-requires Inv-loop μ-loop
 balanced-leg-requires c κs = (search balancing-turned, (search needs, search needs))
@@ -60,6 +65,7 @@ balance-spec =
     loop-holds
     mul-balanced-leg
     slice-read-balanced-leg
+    add-balanced-leg
     balanced-leg-requires
     mul-azimuths
     slice-write-azimuths

@@ -5,8 +5,8 @@ use Rattle.desk.proofs.Balancing.{balanced-is, balanced-turned}
 use Rattle.desk.proofs.angles.balanced_leg.Statement.{statement}
 use Rattle.desk.proofs.angles.balanced_leg.Tie as tie
 
-add-angle-share : tie.Need-add-angle-share
-add-angle-share c = search needs
+sub-angle-share : tie.Need-sub-angle-share
+sub-angle-share c = search needs
 
 angle-share-requires : tie.Need-angle-share-requires
 angle-share-requires c κs = search needs
@@ -30,7 +30,7 @@ pub balanced-leg-spec : {M : Type 1} → statement M
 balanced-leg-spec =
     tie.close
     (tie.spec
-    add-angle-share
+    sub-angle-share
     angle-share-requires
     value-requires
     balanced-requires

@@ -6,8 +6,9 @@ use mathlib.Core.Path.{_≡_}
 use lib.ListN.{length}
 use Rattle.tape.specs.Fields.{fieldsOf}
 use Rattle.whole.specs.Filled.{filled}
-use Rattle.desk.specs.Angles.{carried}
+use Rattle.desk.specs.Angles.{turnsOf}
 use Rattle.desk.specs.Inside.{distanceAt}
+use Rattle.desk.specs.Turns.{carried}
 use Rattle.desk.proofs.Carrying.{legs-room, mark-turned, first-turned, carried-first, next-turned, carried-next, distance-next, carried-last, azimuths-last, distances-last}
 use Rattle.whole.proofs.Filling.{filled-on}
 use Rattle.desk.proofs.angles.carry.Statement.{statement}
@@ -16,7 +17,9 @@ use Rattle.desk.proofs.angles.carry.Tie as tie
 abbrev Inv-loop : tie.InvT-loop
 Inv-loop tape c azimuths₀ distances₀ at₀ azimuth₀ k₀ azimuths distances at azimuth k =
     let f = fieldsOf tape in
-    (k ≤ c .legs) × (at + 9 * c .legs ≡ c .place + 9 * k) × (azimuth ≡ carried f k) × (azimuth < 12960000) × (azimuths ≡ filled (carried f) k azimuths₀)
+    let t = turnsOf f in
+    (k ≤ c .legs) × (at + 9 * c .legs ≡ c .place + 9 * k) × (azimuth ≡ carried t k)
+    × (azimuth < 12960000) × (azimuths ≡ filled (carried t) k azimuths₀)
     × (distances ≡ filled (distanceAt f) k distances₀) × (c .legs ≤ length azimuths) × (c .legs ≤ length distances)
     × (length azimuths ≡ length azimuths₀) × (length distances ≡ length distances₀)
 

@@ -13,11 +13,11 @@ misclosure-of-requires c κs = (search closing-turned, search given-turned)
 angles-close-requires : tie.Need-angles-close-requires
 angles-close-requires c κs = (search needs, search legs-some, search legs-few)
 
-balance-requires : tie.Need-balance-requires
-balance-requires c κs = ((search needs, search legs-few), search all-turned)
-
-frame-requires : tie.Need-frame-requires
-frame-requires c κs = search scaled
+share-out-requires : tie.Need-share-out-requires
+share-out-requires c κs = (
+  (search needs, search legs-some, search legs-few),
+  (search scaled, search all-turned),
+)
 
 same-length : tie.Need-same-length
 same-length c = search needs
@@ -44,8 +44,7 @@ check-angles-spec =
     carry-requires
     misclosure-of-requires
     angles-close-requires
-    balance-requires
-    frame-requires
+    share-out-requires
     same-length
     same-length-2
     returns
