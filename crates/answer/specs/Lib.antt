@@ -1,1 +1,3 @@
+pub mod Limit
+pub mod Refusal
 pub mod Told

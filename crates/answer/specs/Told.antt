@@ -4,6 +4,7 @@ use mathlib.Core.Bool.{Bool, cond, _&&_}
 use Prim.Native.Nat.{ℕ}
 use lib.Dec.{leb}
 use lib.IntN.{ℤ, pos}
+use Rattle.answer.specs.Refusal.{outOfRange}
 use Rattle.answer.specs.declared.Amount.{Amount}
 use Rattle.answer.specs.declared.Amount.the-variants as amount
 use Rattle.answer.specs.declared.Count.{Count}
@@ -24,7 +25,7 @@ refused number place = record { number = number; place = place; value = pos 0 }
 
 -- "Public arithmetic steps give 4, place 0, for an input out of the range stated with them"
 abbrev pub inRange : Bool → ℤ → Told
-inRange good z = cond good (given z) (refused 4 0)
+inRange good z = cond good (given z) (refused outOfRange 0)
 
 -- a range as the paper writes it, low..high
 unfoldable pub inside : ℕ → ℕ → ℕ → Bool
@@ -37,13 +38,13 @@ passes good = cond good (pos 1) (pos 0)
 -- ---- what each case of an answer tells
 unfoldable pub told : Amount → Told
 told (amount.Is z) = given (z .v)
-told amount.OutOfRange = refused 4 0
+told amount.OutOfRange = refused outOfRange 0
 
 unfoldable pub toldCount : Count → Told
 toldCount (count.Is n) = given (pos n)
-toldCount count.OutOfRange = refused 4 0
+toldCount count.OutOfRange = refused outOfRange 0
 
 unfoldable pub toldVerdict : Verdict → Told
 toldVerdict verdict.Passes = given (pos 1)
 toldVerdict verdict.Fails = given (pos 0)
-toldVerdict verdict.OutOfRange = refused 4 0
+toldVerdict verdict.OutOfRange = refused outOfRange 0

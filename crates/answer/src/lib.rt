@@ -4,6 +4,9 @@ ghost use mathlib.Core.Path.{_≡_};
 ghost use lib.IntN.{pos};
 ghost use Rattle.answer.specs.Told.{told, toldCount, toldVerdict, passes};
 
+pub mod limit;
+pub mod refusal;
+
 // Of an arithmetic step: an amount with a sign, or the input was out of the range stated with the step.
 pub enum Amount {
     Is(Whole),

@@ -4,18 +4,27 @@
 use mathlib.Core.Path.{_≡_}
 use Prim.Native.Nat.{ℕ, _+_, _-_, _*_, _/_, _%_, _^_, _≤_, _<_}
 use lib.IntN.{pos}
-use Rattle.minutes.specs.Entry.{entry}
+use Rattle.minutes.specs.Entry.{entry, lastMinute}
+
+-- the minutes of an arc
+abbrev pub arcMinutes : ℕ
+arcMinutes = 16
+
+-- the parts of a unit of the ninth decimal in which an arc is written
+abbrev pub parts : ℕ
+parts = 2 ^ 24
 
 -- in whole units, i minutes behind the arc's start; bit i of the marks is added
 unfoldable pub height : ℕ → ℕ → ℕ → ℕ → ℕ → ℕ
-height start rise bend marks i = (start + i * (rise - i * bend)) / 2 ^ 24 + marks / 2 ^ i % 2
+height start rise bend marks i = (start + i * (rise - i * bend)) / parts + marks / 2 ^ i % 2
 
 -- what the arithmetic of the height stays within
 pub record Small (start rise bend i : ℕ) : Type 0 where
   pub falls : i * bend ≤ rise
   pub most : start + i * (rise - i * bend) < 2 ^ 55
 
--- the arc of the minutes from 16 k on
+-- the arc of the minutes from arcMinutes * k on
 pub record Right (start rise bend marks k : ℕ) : Type 0 where
-  pub small : (i : ℕ) → i ≤ 16 → 16 * k + i ≤ 5400 → Small start rise bend i
-  pub each : (i : ℕ) → i ≤ 16 → 16 * k + i ≤ 5400 → pos (height start rise bend marks i) ≡ entry (16 * k + i)
+  pub small : (i : ℕ) → i ≤ arcMinutes → arcMinutes * k + i ≤ lastMinute → Small start rise bend i
+  pub each : (i : ℕ) → i ≤ arcMinutes → arcMinutes * k + i ≤ lastMinute
+      → pos (height start rise bend marks i) ≡ entry (arcMinutes * k + i)

@@ -5,12 +5,29 @@
 ghost use mathlib.Core.Path.{_≡_};
 ghost use Prim.Native.Nat.{_+_, _≤_, min};
 ghost use lib.IntN.{pos};
-ghost use Rattle.minutes.specs.Inside.{height as Arc·height, Small};
-ghost use Rattle.minutes.specs.Entry.{Table, entry};
+ghost use Rattle.minutes.specs.Inside.{height as Arc·height, Small, arcMinutes};
+ghost use Rattle.minutes.specs.Entry.{Table, entry, lastMinute};
+ghost use Rattle.minutes.specs.Exact.{nineDecimals};
 use arcs::Arc;
 
 mod arcs;
 mod constant;
+pub mod quadrant;
+
+// 1 in units of the ninth decimal: the sine of 90 degrees, and no sine is above it.
+pub const NINE_DECIMALS: u32 = 1_000_000_000;
+
+// The minute of 90 degrees: "every whole minute from 0 to 90 degrees".
+pub const LAST_MINUTE: usize = 5_400;
+
+// "5,401 entries": that of 0 degrees is one of them.
+pub const ENTRIES: usize = 5_401;
+
+// The minutes of an arc.
+const ARC_MINUTES: usize = 16;
+
+// The parts of a unit of the ninth decimal in which an arc is written: 2 ^ 24.
+const PARTS: u64 = 16_777_216;
 
 // The entry of a minute, and the one behind it.
 pub struct Pair {
@@ -20,28 +37,28 @@ pub struct Pair {
 
 // i minutes behind the start of an arc, whose numbers have 2 ^ 24 parts to a unit: the whole units of the curve, and the entry's mark.
 fn height(arc: Arc, i: u64) -> u32
-    requires { ⌜ i ≤ 16 ⌝ }
+    requires { ⌜ i ≤ arcMinutes ⌝ }
     requires { ⌜ Small (arc .0) (arc .1) (arc .2) i ⌝ }
     ensures { λ r. ⌜ r ≡ Arc·height (arc .0) (arc .1) (arc .2) (arc .3) i ⌝ }
 {
     let slope = arc.1 - i * arc.2;
-    ((arc.0 + i * slope) / 16777216 + (arc.3 >> i) % 2) as u32
+    ((arc.0 + i * slope) / PARTS + (arc.3 >> i) % 2) as u32
 }
 
 // Behind 90 degrees there is none, and the last one stands for all.
 pub fn pair_at(m: usize) -> Pair
-    ensures first { λ r. ⌜ pos (r .e) ≡ entry (min m 5400) ⌝ }
-    ensures next { λ r. ⌜ pos (r .f) ≡ entry (min (m + 1) 5400) ⌝ }
-    ensures size { λ r. ⌜ (r .e ≤ 1000000000) × (r .f ≤ 1000000000) ⌝ }
+    ensures first { λ r. ⌜ pos (r .e) ≡ entry (min m lastMinute) ⌝ }
+    ensures next { λ r. ⌜ pos (r .f) ≡ entry (min (m + 1) lastMinute) ⌝ }
+    ensures size { λ r. ⌜ (r .e ≤ nineDecimals) × (r .f ≤ nineDecimals) ⌝ }
 {
-    if 5400 <= m {
+    if LAST_MINUTE <= m {
         return Pair {
-            e: 1000000000,
-            f: 1000000000,
+            e: NINE_DECIMALS,
+            f: NINE_DECIMALS,
         };
     }
-    let arc = arcs::at(m / 16);
-    let i = (m % 16) as u64;
+    let arc = arcs::at(m / ARC_MINUTES);
+    let i = (m % ARC_MINUTES) as u64;
     Pair {
         e: height(arc, i),
         f: height(arc, i + 1),
@@ -49,7 +66,7 @@ pub fn pair_at(m: usize) -> Pair
 }
 
 // The table by value.
-pub fn table() -> [u32; 5401]
+pub fn table() -> [u32; ENTRIES]
     ensures { λ r. ⌜ Table r ⌝ }
 {
     constant::MINUTES

@@ -14,7 +14,8 @@ use Rattle.answer.specs.Told.{told}
 use Rattle.answer.specs.declared.Amount.{Amount}
 use Rattle.answer.proofs.Telling.{not-second}
 use Rattle.minutes.specs.Quadrant.{circle, folded}
-use Rattle.minutes.specs.Entry.{Table, entry}
+use Rattle.minutes.specs.Entry.{Table, entry, lastMinute}
+use Rattle.minutes.specs.Exact.{nineDecimals}
 use Rattle.minutes.proofs.Entries.{entry-is}
 use Rattle.sines.specs.Sine.{between, quarterBy, entryIn, sineBy, cosineBy, ofAngle}
 use Rattle.sines.proofs.Line.{at-minute, from-minute, between-most}
@@ -22,29 +23,29 @@ use Rattle.sines.proofs.Quadrants.{folded-most, size-is}
 
 -- ---- the entries, by the rule and in any lent table
 pub record Entries (e : ℕ → ℤ) : Type 0 where
-  pub each : (m : ℕ) → m ≤ 5400 → (n : ℕ) × (e m ≡ pos n) × (n ≤ 1000000000)
+  pub each : (m : ℕ) → m ≤ lastMinute → (n : ℕ) × (e m ≡ pos n) × (n ≤ nineDecimals)
 
 pub rule-entries : Entries entry
 rule-entries = record { each = entry-is }
 
 -- ---- of a lent list: one that is long enough for a table has those up to 90 degrees, which count up to 1, and the rest is the rule's
 module _ (t : List ℕ) (m : ℕ) where
-  entry-there : 5401 ≤ length t → m ≤ 5400 → entryIn t m ≡ pos (min (getD t m 0) 1000000000)
+  entry-there : 5401 ≤ length t → m ≤ lastMinute → entryIn t m ≡ pos (min (getD t m 0) nineDecimals)
   unfolding entryIn
-  entry-there h i = rw (le-leb 5401 (length t) h, le-leb m 5400 i)
+  entry-there h i = rw (le-leb 5401 (length t) h, le-leb m lastMinute i)
 
   too-short : length t < 5401 → entryIn t m ≡ entry m
   unfolding entryIn
   too-short h = rw (lt-leb 5401 (length t) h)
 
-  past-last : 5400 < m → entryIn t m ≡ entry m
+  past-last : lastMinute < m → entryIn t m ≡ entry m
   unfolding entryIn
-  past-last h = rw (not-second (leb 5401 (length t)) (leb m 5400) (lt-leb m 5400 h))
+  past-last h = rw (not-second (leb 5401 (length t)) (leb m lastMinute) (lt-leb m lastMinute h))
 
 pub lent-entries : (t : List ℕ) → Entries (entryIn t)
 lent-entries t = record { each = each }
   where
-    each : (m : ℕ) → m ≤ 5400 → (n : ℕ) × (entryIn t m ≡ pos n) × (n ≤ 1000000000)
+    each : (m : ℕ) → m ≤ lastMinute → (n : ℕ) × (entryIn t m ≡ pos n) × (n ≤ nineDecimals)
     each m h =
         elim (decLt (length t) 5401) [
           | yes i ↦ rw (too-short t m i) (entry-is m h)
@@ -60,7 +61,7 @@ own-entries t right = fun-ext same
   where
     same : (m : ℕ) → entryIn t m ≡ entry m
     same m =
-        elim (decLe m 5400) [
+        elim (decLe m lastMinute) [
           | yes h ↦
               let e = entry-is m h in
               let f : getD t m 0 ≡ e .0 = ap natAbs (right .each m h ∙ e .1) in
@@ -70,10 +71,17 @@ own-entries t right = fun-ext same
 
 -- ---- the line between two entries as the code takes them
 module _ (m r x y v : ℕ) (g : pos v ≡ between (pos x) (pos y) r) where
-  pub own-line : pos x ≡ entry (min m 5400) → pos y ≡ entry (min (m + 1) 5400) → m ≤ 5399 → pos v ≡ between (entry m) (entry (m + 1)) r
-  own-line e f h = let i : min m 5400 ≡ m = omega arith in let j : min (m + 1) 5400 ≡ m + 1 = omega arith in g ∙ rw (e, f, i, j)
+  pub own-line : pos x ≡ entry (min m lastMinute) → pos y ≡ entry (min (m + 1) lastMinute)
+      → m < lastMinute
+      → pos v ≡ between (entry m) (entry (m + 1)) r
+  own-line e f h =
+      let i : min m lastMinute ≡ m = omega arith in
+      let j : min (m + 1) lastMinute ≡ m + 1 = omega arith in
+      g ∙ rw (e, f, i, j)
 
-  pub lent-line : (t : List ℕ) → x ≡ min (getD t m 0) 1000000000 → y ≡ min (getD t (m + 1) 0) 1000000000 → 5401 ≤ length t → m ≤ 5399
+  pub lent-line : (t : List ℕ) → x ≡ min (getD t m 0) nineDecimals
+      → y ≡ min (getD t (m + 1) 0) nineDecimals
+      → 5401 ≤ length t → m < lastMinute
       → pos v ≡ between (entryIn t m) (entryIn t (m + 1)) r
   lent-line t e f h i = rw (entry-there t m h (omega arith), entry-there t (m + 1) h (omega arith), ← e, ← f) g
 
@@ -95,7 +103,7 @@ module _ (a : ℕ) (r : Amount) where
 
 -- ---- no sine is above 1
 module _ (e : ℕ → ℤ) (entries : Entries e) where
-  pub quarter-size : (a : ℕ) → a ≤ 3240000 → (n : ℕ) × (quarterBy e a ≡ pos n) × (n ≤ 1000000000)
+  pub quarter-size : (a : ℕ) → a ≤ 3240000 → (n : ℕ) × (quarterBy e a ≡ pos n) × (n ≤ nineDecimals)
   unfolding quarterBy
   quarter-size a h =
       let x = entries .each (a / 600) (omega arith) in
@@ -103,11 +111,11 @@ module _ (e : ℕ → ℤ) (entries : Entries e) where
         | yes z ↦ (x .0, ap (between (e (a / 600)) (e (a / 600 + 1))) z ∙ at-minute (e (a / 600)) (e (a / 600 + 1)) ∙ x .1, x .2)
         | no z ↦
             let y = entries .each (a / 600 + 1) (omega arith) in
-            let l = between-most (x .0) (y .0) (a % 600) 1000000000 (omega arith) (x .2) (y .2) in
+            let l = between-most (x .0) (y .0) (a % 600) nineDecimals (omega arith) (x .2) (y .2) in
             (l .0, rw (x .1, y .1) (l .1), l .2)
       ]
 
-  pub sine-size : (a : ℕ) → a < circle → natAbs (sineBy e a) ≤ 1000000000
+  pub sine-size : (a : ℕ) → a < circle → natAbs (sineBy e a) ≤ nineDecimals
   sine-size a h =
       let q = quarter-size (folded a) (folded-most a h) in
       rw (← size-is e a (folded a) (q .0) refl (sym (q .1))) (q .2)

@@ -6,20 +6,23 @@ use lib.Dec.{leb, ltb}
 use lib.ListN.{length, getD}
 use lib.IntN.{ℤ, pos, natAbs, _+ℤ_, _-ℤ_, _*ℤ_}
 use Rattle.whole.specs.Nearest.{nearest}
+use Rattle.answer.specs.Refusal.{outOfRange}
 use Rattle.answer.specs.Told.{Told, given, refused, inRange}
-use Rattle.minutes.specs.Entry.{entry}
-use Rattle.minutes.specs.Quadrant.{circle, turned, around, ahead}
+use Rattle.minutes.specs.Entry.{entry, entries, lastMinute}
+use Rattle.minutes.specs.Exact.{nineDecimals}
+use Rattle.minutes.specs.Quadrant.{circle, halfCircle, tenthsInMinute, turned, around, ahead}
 use Rattle.sines.specs.declared.Sides.{Sides}
 use Rattle.sines.specs.declared.Turned.{Turned}
 use Rattle.sines.specs.declared.Turned.the-variants.{Are, OutOfRange}
 
 -- "entry m plus the nearest whole number to (entry m+1 less entry m) x r / 600"
 unfoldable pub between : ℤ → ℤ → ℕ → ℤ
-between e f r = e +ℤ nearest ((f -ℤ e) *ℤ pos r) 600
+between e f r = e +ℤ nearest ((f -ℤ e) *ℤ pos r) tenthsInMinute
 
 -- the sine of an angle of the first quadrant by given entries; at a whole minute, r = 0, it is the entry, whatever stands behind it
 unfoldable pub quarterBy : (ℕ → ℤ) → ℕ → ℤ
-quarterBy e a = between (e (a / 600)) (e (a / 600 + 1)) (a % 600)
+quarterBy e a =
+    between (e (a / tenthsInMinute)) (e (a / tenthsInMinute + 1)) (a % tenthsInMinute)
 
 -- the sine and the cosine by given entries: by `entry` they are the paper's
 unfoldable pub sineBy : (ℕ → ℤ) → ℕ → ℤ
@@ -31,7 +34,9 @@ cosineBy e a = sineBy e (ahead a)
 -- the entries of any list that is lent for a table: one above 1 counts as 1, so that no sine is above 1. A list too short for a table lends none, and
 -- all are the paper's, as are those behind 90 degrees. So an empty list stands for the paper's table, and so does a list that holds it
 unfoldable pub entryIn : List ℕ → ℕ → ℤ
-entryIn t m = cond (leb 5401 (length t) && leb m 5400) (pos (min (getD t m 0) 1000000000)) (entry m)
+entryIn t m =
+    cond (leb entries (length t) && leb m lastMinute) (pos (min (getD t m 0) nineDecimals))
+    (entry m)
 
 -- "An angle of 12,960,000 or more is refused (4)"
 abbrev pub ofAngle : ℕ → ℤ → Told
@@ -40,7 +45,12 @@ ofAngle a z = inRange (ltb a circle) z
 -- the sine and the cosine of an angle as sizes, and whether each is negative: which it is by the half of the circle, of an entry 0 too
 unfoldable pub sidesBy : (ℕ → ℤ) → ℕ → Sides
 sidesBy e a =
-    record { sine = natAbs (sineBy e a); past = ltb 6480000 a; cosine = natAbs (cosineBy e a); back = ltb 6480000 (ahead a) }
+    record {
+      sine = natAbs (sineBy e a);
+      past = ltb halfCircle a;
+      cosine = natAbs (cosineBy e a);
+      back = ltb halfCircle (ahead a);
+    }
 
 -- both, or the refusal
 abbrev pub turnedBy : (ℕ → ℤ) → ℕ → Turned
@@ -49,11 +59,11 @@ turnedBy e a = cond (ltb a circle) (Are (sidesBy e a)) OutOfRange
 -- what each case tells of the sine, and of the cosine: the size with its sign
 abbrev pub toldSine : Turned → Told
 toldSine (Are s) = given (turned (s .past) (pos (s .sine)))
-toldSine OutOfRange = refused 4 0
+toldSine OutOfRange = refused outOfRange 0
 
 abbrev pub toldCosine : Turned → Told
 toldCosine (Are s) = given (turned (s .back) (pos (s .cosine)))
-toldCosine OutOfRange = refused 4 0
+toldCosine OutOfRange = refused outOfRange 0
 
 -- "Every sine must be shown within 20 units of the ninth decimal of the exact one"
 abbrev pub units : ℕ

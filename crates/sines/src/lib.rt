@@ -3,6 +3,14 @@
 // An entry of the table costs some instructions, so whoever wants many sines takes the table once and lends it. Any list may be lent: one that is too short
 // for a table lends nothing, and the entries are the desk's own. Sizes are unsigned, and a sign is put on once.
 use answer::Amount;
+use minutes::ENTRIES;
+use minutes::LAST_MINUTE;
+use minutes::NINE_DECIMALS;
+use minutes::quadrant::CIRCLE;
+use minutes::quadrant::HALF_CIRCLE;
+use minutes::quadrant::QUARTER_CIRCLE;
+use minutes::quadrant::TENTHS_IN_MINUTE;
+use minutes::quadrant::THREE_QUARTERS;
 use whole::Whole;
 ghost use mathlib.Core.Path.{_≡_};
 ghost use Prim.Native.Nat.{_+_, _-_, _*_, _<_, _≤_, _^_, min};
@@ -10,9 +18,17 @@ ghost use lib.Dec.{ltb};
 ghost use lib.ListN.{length};
 ghost use lib.IntN.{pos, natAbs};
 ghost use Rattle.answer.specs.Told.{told};
+ghost use Rattle.minutes.specs.Quadrant.{circle, halfCircle, quarterCircle, tenthsInMinute};
 ghost use Rattle.minutes.specs.Quadrant.{folded, turned, ahead};
-ghost use Rattle.minutes.specs.Entry.{Table, entry};
+ghost use Rattle.minutes.specs.Exact.{nineDecimals};
+ghost use Rattle.minutes.specs.Entry.{Table, entry, entries, lastMinute};
 ghost use Rattle.sines.specs.Sine.{between as Sine·between, quarterBy, entryIn, sineBy, cosineBy, ofAngle, turnedBy, toldSine, toldCosine};
+
+// The last minute that has a next one: 90 degrees are a whole minute past it.
+const LAST_START: u32 = LAST_MINUTE as u32 - 1;
+
+// The tenths of a minute, as wide as the products that they divide.
+const MINUTE: u64 = TENTHS_IN_MINUTE as u64;
 
 // The sine and the cosine of an angle: their sizes, and whether each is negative, the sine past 180 degrees, the cosine between 90 and 270.
 pub struct Sides {
@@ -35,7 +51,7 @@ pub enum Turned {
 }
 
 // The table by value.
-pub fn table() -> [u32; 5401]
+pub fn table() -> [u32; ENTRIES]
     ensures { λ r. ⌜ Table r ⌝ }
 {
     minutes::table()
@@ -43,42 +59,42 @@ pub fn table() -> [u32; 5401]
 
 // What an entry of a lent list counts as.
 fn counted(e: u32) -> u32
-    ensures { λ r. ⌜ r ≡ min e 1000000000 ⌝ }
+    ensures { λ r. ⌜ r ≡ min e nineDecimals ⌝ }
 {
-    if 1000000000 < e {
-        return 1000000000;
+    if NINE_DECIMALS < e {
+        return NINE_DECIMALS;
     }
     e
 }
 
 // r tenths past a minute whose entry is e, where the next one's is f and no lower: by a straight line, to the nearest.
 fn rise(e: u32, f: u32, r: u32) -> u32
-    requires { ⌜ r ≤ 600 ⌝ }
-    requires { ⌜ (e ≤ f) × (f ≤ 1000000000) ⌝ }
+    requires { ⌜ r ≤ tenthsInMinute ⌝ }
+    requires { ⌜ (e ≤ f) × (f ≤ nineDecimals) ⌝ }
     ensures is { λ v. ⌜ pos v ≡ Sine·between (pos e) (pos f) r ⌝ }
-    ensures most { λ v. ⌜ v ≤ 1000000000 ⌝ }
+    ensures most { λ v. ⌜ v ≤ nineDecimals ⌝ }
 {
-    e + whole::half_up((f - e) as u64 * r as u64, 600) as u32
+    e + whole::half_up((f - e) as u64 * r as u64, MINUTE) as u32
 }
 
 // The same where the next one may be lower.
 fn between(e: u32, f: u32, r: u32) -> u32
-    requires { ⌜ r ≤ 600 ⌝ }
-    requires { ⌜ (e ≤ 1000000000) × (f ≤ 1000000000) ⌝ }
+    requires { ⌜ r ≤ tenthsInMinute ⌝ }
+    requires { ⌜ (e ≤ nineDecimals) × (f ≤ nineDecimals) ⌝ }
     ensures is { λ v. ⌜ pos v ≡ Sine·between (pos e) (pos f) r ⌝ }
-    ensures most { λ v. ⌜ v ≤ 1000000000 ⌝ }
+    ensures most { λ v. ⌜ v ≤ nineDecimals ⌝ }
 {
     if e <= f {
         return rise(e, f, r);
     }
-    e - whole::half_up((e - f) as u64 * r as u64, 600) as u32
+    e - whole::half_up((e - f) as u64 * r as u64, MINUTE) as u32
 }
 
 // The sine r tenths past a minute, by the desk's own entries.
 fn unlent(m: usize, r: u32) -> u32
-    requires { ⌜ (m ≤ 5399) × (r ≤ 600) ⌝ }
+    requires { ⌜ (m < lastMinute) × (r ≤ tenthsInMinute) ⌝ }
     ensures is { λ v. ⌜ pos v ≡ Sine·between (entry m) (entry (m + 1)) r ⌝ }
-    ensures most { λ v. ⌜ v ≤ 1000000000 ⌝ }
+    ensures most { λ v. ⌜ v ≤ nineDecimals ⌝ }
 {
     let p = minutes::pair_at(m);
     between(p.e, p.f, r)
@@ -86,14 +102,14 @@ fn unlent(m: usize, r: u32) -> u32
 
 // The same by the entries of a lent table. Those of a table of sines rise and are at most 1, which is tried first: then each counts as it stands.
 fn lent(table: &[u32], m: usize, r: u32) -> u32
-    requires { ⌜ 5401 ≤ length (now table) ⌝ }
-    requires { ⌜ (m ≤ 5399) × (r ≤ 600) ⌝ }
+    requires { ⌜ entries ≤ length (now table) ⌝ }
+    requires { ⌜ (m < lastMinute) × (r ≤ tenthsInMinute) ⌝ }
     ensures is { λ v. ⌜ pos v ≡ Sine·between (entryIn (now (table .entry)) m) (entryIn (now (table .entry)) (m + 1)) r ⌝ }
-    ensures most { λ v. ⌜ v ≤ 1000000000 ⌝ }
+    ensures most { λ v. ⌜ v ≤ nineDecimals ⌝ }
 {
     let e = table[m];
     let f = table[m + 1];
-    if f <= 1000000000 {
+    if f <= NINE_DECIMALS {
         if e <= f {
             return rise(e, f, r);
         }
@@ -103,24 +119,26 @@ fn lent(table: &[u32], m: usize, r: u32) -> u32
 
 // The minute from which an angle of the first quadrant is counted. At 90 degrees it is the one before, 600 tenths back, so that there is always a next.
 fn minute(a: u32) -> u32
-    requires { ⌜ a ≤ 3240000 ⌝ }
-    ensures { λ m. ⌜ (m ≤ 5399) × (600 * m ≤ a) × (a ≤ 600 * m + 600) ⌝ }
+    requires { ⌜ a ≤ quarterCircle ⌝ }
+    ensures { λ m. ⌜ (m < lastMinute)
+        × (tenthsInMinute * m ≤ a)
+        × (a ≤ tenthsInMinute * m + tenthsInMinute) ⌝ }
 {
-    if a < 3240000 {
-        return a / 600;
+    if a < QUARTER_CIRCLE {
+        return a / TENTHS_IN_MINUTE;
     }
-    5399
+    LAST_START
 }
 
 // The sine of an angle of the first quadrant in a lent list.
 fn quarter_in(table: &[u32], a: u32) -> u32
-    requires { ⌜ a ≤ 3240000 ⌝ }
+    requires { ⌜ a ≤ quarterCircle ⌝ }
     ensures is { λ v. ⌜ pos v ≡ quarterBy (entryIn (now (table .entry))) a ⌝ }
-    ensures most { λ v. ⌜ v ≤ 1000000000 ⌝ }
+    ensures most { λ v. ⌜ v ≤ nineDecimals ⌝ }
 {
     let m = minute(a);
-    let r = a - 600 * m;
-    if table.len() < 5401 {
+    let r = a - TENTHS_IN_MINUTE * m;
+    if table.len() < ENTRIES {
         return unlent(m as usize, r);
     }
     lent(table, m as usize, r)
@@ -128,50 +146,51 @@ fn quarter_in(table: &[u32], a: u32) -> u32
 
 // Its sine and its cosine, whose angle is what is left to 90 degrees: the same tenths, counted back from the other end of the table.
 fn both_in(table: &[u32], a: u32) -> Sizes
-    requires { ⌜ a ≤ 3240000 ⌝ }
+    requires { ⌜ a ≤ quarterCircle ⌝ }
     ensures sine { λ s. ⌜ pos (s .sine) ≡ quarterBy (entryIn (now (table .entry))) a ⌝ }
-    ensures cosine { λ s. ⌜ pos (s .cosine) ≡ quarterBy (entryIn (now (table .entry))) (3240000 - a) ⌝ }
+    ensures cosine { λ s. ⌜ pos (s .cosine)
+        ≡ quarterBy (entryIn (now (table .entry))) (quarterCircle - a) ⌝ }
 {
     let m = minute(a);
-    let r = a - 600 * m;
-    if table.len() < 5401 {
+    let r = a - TENTHS_IN_MINUTE * m;
+    if table.len() < ENTRIES {
         return Sizes {
             sine: unlent(m as usize, r),
-            cosine: unlent((5399 - m) as usize, 600 - r),
+            cosine: unlent((LAST_START - m) as usize, TENTHS_IN_MINUTE - r),
         };
     }
     Sizes {
         sine: lent(table, m as usize, r),
-        cosine: lent(table, (5399 - m) as usize, 600 - r),
+        cosine: lent(table, (LAST_START - m) as usize, TENTHS_IN_MINUTE - r),
     }
 }
 
 // The angle of the first quadrant whose sine has the same size: past 180 degrees the sizes run as from 0 on, and past 90 they run back.
 fn fold(angle: u32) -> u32
-    requires { ⌜ angle < 12960000 ⌝ }
+    requires { ⌜ angle < circle ⌝ }
     ensures is { λ r. ⌜ r ≡ folded angle ⌝ }
-    ensures most { λ r. ⌜ r ≤ 3240000 ⌝ }
+    ensures most { λ r. ⌜ r ≤ quarterCircle ⌝ }
 {
-    let half = if 6480000 < angle {
-        angle - 6480000
+    let half = if HALF_CIRCLE < angle {
+        angle - HALF_CIRCLE
     } else {
         angle
     };
-    if half <= 3240000 {
+    if half <= QUARTER_CIRCLE {
         return half;
     }
-    6480000 - half
+    HALF_CIRCLE - half
 }
 
 // Whether the cosine is negative.
 fn behind(angle: u32) -> bool
-    requires { ⌜ angle < 12960000 ⌝ }
-    ensures { λ r. ⌜ r ≡ ltb 6480000 (ahead angle) ⌝ }
+    requires { ⌜ angle < circle ⌝ }
+    ensures { λ r. ⌜ r ≡ ltb halfCircle (ahead angle) ⌝ }
 {
-    if angle <= 3240000 {
+    if angle <= QUARTER_CIRCLE {
         return false;
     }
-    angle < 9720000
+    angle < THREE_QUARTERS
 }
 
 // A size with its sign.
@@ -192,13 +211,13 @@ pub fn sides_in(table: &[u32], angle: u32) -> Turned
     ensures sine { λ r. ⌜ toldSine r ≡ ofAngle angle (sineBy (entryIn (now (table .entry))) angle) ⌝ }
     ensures cosine { λ r. ⌜ toldCosine r ≡ ofAngle angle (cosineBy (entryIn (now (table .entry))) angle) ⌝ }
 {
-    if 12960000 <= angle {
+    if CIRCLE <= angle {
         return Turned::OutOfRange;
     }
     let sizes = both_in(table, fold(angle));
     Turned::Are(Sides {
         sine: sizes.sine,
-        past: 6480000 < angle,
+        past: HALF_CIRCLE < angle,
         cosine: sizes.cosine,
         back: behind(angle),
     })
@@ -209,10 +228,10 @@ pub fn sine_in(table: &[u32], angle: u32) -> Amount
     ensures is { λ r. ⌜ told r ≡ ofAngle angle (sineBy (entryIn (now (table .entry))) angle) ⌝ }
     ensures size { λ r. ⌜ natAbs (told r .value) < 2 ^ 32 ⌝ }
 {
-    if 12960000 <= angle {
+    if CIRCLE <= angle {
         return Amount::OutOfRange;
     }
-    Amount::Is(signed(quarter_in(table, fold(angle)), 6480000 < angle))
+    Amount::Is(signed(quarter_in(table, fold(angle)), HALF_CIRCLE < angle))
 }
 
 // The cosine is the sine of the angle plus 90 degrees.
@@ -220,10 +239,13 @@ pub fn cosine_in(table: &[u32], angle: u32) -> Amount
     ensures is { λ r. ⌜ told r ≡ ofAngle angle (cosineBy (entryIn (now (table .entry))) angle) ⌝ }
     ensures size { λ r. ⌜ natAbs (told r .value) < 2 ^ 32 ⌝ }
 {
-    if 12960000 <= angle {
+    if CIRCLE <= angle {
         return Amount::OutOfRange;
     }
-    Amount::Is(signed(quarter_in(table, 3240000 - fold(angle)), behind(angle)))
+    Amount::Is(signed(
+        quarter_in(table, QUARTER_CIRCLE - fold(angle)),
+        behind(angle),
+    ))
 }
 
 // An empty list has none of the entries, so all are the paper's.

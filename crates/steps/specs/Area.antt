@@ -6,6 +6,7 @@ use lib.Dec.{leb, eqb}
 use lib.ListN.{length, getD}
 use lib.IntN.{ℤ, pos, natAbs, _-ℤ_, _*ℤ_}
 use Rattle.whole.specs.Sum.{sumTo}
+use Rattle.answer.specs.Limit.{mostLegs}
 use Rattle.answer.specs.Told.{Told, inRange, inside}
 
 -- a list of offsets holds northing, then easting, of each station
@@ -33,10 +34,20 @@ doubledTo offsets n = sumTo (λ (i : ℕ). cross offsets i (nextStation offsets 
 abbrev pub doubled : List ℤ → ℤ
 doubled offsets = doubledTo offsets (stations offsets)
 
+-- "offsets of size up to 130,000,000", in hundredths of a foot
+abbrev pub mostOffset : ℕ
+mostOffset = 130000000
+
+-- "1 to 64 stations", as many as a loop may have legs, with two offsets each
+abbrev pub mostWords : ℕ
+mostWords = 2 * mostLegs
+
 -- ---- the step: "1 to 64 stations with offsets of size up to 130,000,000"
 unfoldable pub small : List ℤ → Bool
 small [] = true
-small (z ∷ zs) = leb (natAbs z) 130000000 && small zs
+small (z ∷ zs) = leb (natAbs z) mostOffset && small zs
 
 abbrev pub areaStep : List ℤ → Told
-areaStep offsets = inRange (inside 2 128 (length offsets) && eqb (length offsets % 2) 0 && small offsets) (doubled offsets)
+areaStep offsets =
+    inRange (inside 2 mostWords (length offsets) && eqb (length offsets % 2) 0 && small offsets)
+    (doubled offsets)

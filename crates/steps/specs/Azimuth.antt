@@ -6,10 +6,9 @@ use lib.Dec.{leb, ltb}
 use lib.IntN.{ℤ, pos, negsuc, negℤ, natAbs, _+ℤ_, _-ℤ_, _*ℤ_}
 use Rattle.whole.specs.Order.{_≤ᶻ_, _<ᶻ_}
 use Rattle.answer.specs.Told.{Told, inRange, inside, passes}
+use Rattle.answer.specs.Limit.{mostLegs}
 use Rattle.minutes.specs.Quadrant.{circle}
-
-abbrev pub halfCircle : ℕ
-halfCircle = 6480000
+pub use Rattle.minutes.specs.Quadrant.{halfCircle}
 
 -- two amounts that differ by whole circles
 abbrev pub SameAngle : ℤ → ℤ → Type 0
@@ -45,9 +44,13 @@ nearHalf d = cond (leb d halfCircle) (pos d) (negℤ (pos (circle - d)))
 unfoldable pub misclosure : ℕ → ℕ → ℤ
 misclosure carried given = nearHalf (turn (pos carried -ℤ pos given))
 
+-- "100 x (n+1)": the tenths that each of the n+1 angles may be off
+abbrev pub mostPerAngle : ℕ
+mostPerAngle = 100
+
 -- "Refused (8) exactly when its size exceeds 100 x (n+1)"
 unfoldable pub closesAngles : ℤ → ℕ → Bool
-closesAngles w n = leb (natAbs w) (100 * (n + 1))
+closesAngles w n = leb (natAbs w) (mostPerAngle * (n + 1))
 
 -- "the carried one less that share, modulo the circle"
 unfoldable pub balanced : ℕ → ℤ → ℕ
@@ -67,7 +70,8 @@ abbrev pub misclosureStep : ℕ → ℕ → Told
 misclosureStep carried given = ofAngles carried given (misclosure carried given)
 
 abbrev pub misclosureTest : ℤ → ℕ → Told
-misclosureTest w n = inRange (leb (natAbs w) halfCircle && inside 1 64 n) (passes (closesAngles w n))
+misclosureTest w n =
+    inRange (leb (natAbs w) halfCircle && inside 1 mostLegs n) (passes (closesAngles w n))
 
 abbrev pub balancedStep : ℕ → ℤ → Told
 balancedStep azimuth share = inRange (ltb azimuth circle && leb (natAbs share) halfCircle) (pos (balanced azimuth share))

@@ -4,6 +4,7 @@ use Prim.Native.Nat.{ℕ}
 use lib.Dec.{leb, ltb}
 use lib.IntN.{ℤ, pos, negℤ, _*ℤ_}
 use Rattle.whole.specs.Nearest.{nearest}
+use Rattle.answer.specs.Refusal.{outOfRange}
 use Rattle.answer.specs.Told.{Told, given, refused, inRange}
 use Rattle.minutes.specs.Quadrant.{circle}
 use Rattle.sines.specs.Sine.{sineBy, cosineBy}
@@ -14,10 +15,14 @@ use Rattle.steps.specs.declared.course.Moves.the-variants.{Are, OutOfRan
 pub data Axis : Type 0 where
   north east : Axis
 
+-- the units of the exact product in a hundredth of a foot: thousandths by nine decimals, 10 ^ 10
+abbrev pub perHundredth : ℕ
+perHundredth = 10000000000
+
 -- "Latitude = minus grid distance x cosine; departure = minus grid distance x sine; each the nearest hundredth, rounded once from the exact
 -- product": thousandths by nine decimals, over 10 ^ 10
 unfoldable pub move : ℕ → ℤ → ℤ
-move distance sine = nearest (negℤ (sine *ℤ pos distance)) 10000000000
+move distance sine = nearest (negℤ (sine *ℤ pos distance)) perHundredth
 
 -- "with the table's sine": the cosine for latitudes, the sine for departures, by the entries of a table
 unfoldable pub sineAlong : (ℕ → ℤ) → Axis → ℕ → ℤ
@@ -27,15 +32,19 @@ sineAlong e east azimuth = sineBy e azimuth
 abbrev pub course : (ℕ → ℤ) → Axis → ℕ → ℕ → ℤ
 course e axis distance azimuth = move distance (sineAlong e axis azimuth)
 
+-- "a grid distance of 0..20,100,000", in thousandths of a foot
+abbrev pub mostGrid : ℕ
+mostGrid = 20100000
+
 -- ---- the steps: "a grid distance of 0..20,100,000 and an azimuth or angle of 0..12,959,999"; by the entries of the paper, or of a lent table
 abbrev pub ofLeg : ℕ → ℕ → ℤ → Told
-ofLeg distance azimuth z = inRange (leb distance 20100000 && ltb azimuth circle) z
+ofLeg distance azimuth z = inRange (leb distance mostGrid && ltb azimuth circle) z
 
 abbrev pub courseStep : (ℕ → ℤ) → Axis → ℕ → ℕ → Told
 courseStep e axis distance azimuth = ofLeg distance azimuth (course e axis distance azimuth)
 
 -- ---- both moves of a leg at once: what is told along each axis
 unfoldable pub toldOf : Axis → Moves → Told
-toldOf axis OutOfRange = refused 4 0
+toldOf axis OutOfRange = refused outOfRange 0
 toldOf north (Are n e) = given (n .v)
 toldOf east (Are n e) = given (e .v)

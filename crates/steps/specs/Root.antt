@@ -7,6 +7,10 @@ use Prim.Native.Nat.{ℕ, zero, suc, _+_, _-_, _*_, _/_, _%_, _≤_, _<_}
 use lib.Dec.{leb}
 use Rattle.steps.specs.declared.root.Working.{Working}
 
+-- a number whose root is taken is S squared over 100 or more, so it has at most nine pairs
+abbrev pub pairs : ℕ
+pairs = 9
+
 -- r is the whole root of x: its square is at most x, and the square of the next number is above x.
 -- Every method of finding it meets this.
 abbrev pub WholeRoot : ℕ → ℕ → Type 0

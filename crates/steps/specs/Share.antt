@@ -4,7 +4,10 @@ use Prim.Native.Nat.{ℕ, _+_}
 use lib.Dec.{leb}
 use lib.IntN.{ℤ, pos, natAbs, _*ℤ_}
 use Rattle.whole.specs.Nearest.{nearest}
+use Rattle.answer.specs.Limit.{mostLegs}
 use Rattle.answer.specs.Told.{Told, inRange, inside}
+use Rattle.minutes.specs.Quadrant.{halfCircle}
+use Rattle.steps.specs.Closure.{mostClosure, mostSum}
 
 -- "nearest to W x j / (n+1)", "nearest to closure x S_k / S": the share of a total at a part of a whole
 unfoldable pub share : ℤ → ℕ → ℕ → ℤ
@@ -13,7 +16,10 @@ share total part whole = nearest (total *ℤ pos part) whole
 -- ---- the steps: "a closure of size up to 26,000, a whole 1..1,300,000,000 and a part 0..whole"; of W, at the j-th of n + 1 angles, those of the
 -- misclosure test and a j of 0..n+1
 abbrev pub shareStep : ℤ → ℕ → ℕ → Told
-shareStep closure part whole = inRange (leb (natAbs closure) 26000 && inside 1 1300000000 whole && leb part whole) (share closure part whole)
+shareStep closure part whole =
+    inRange (leb (natAbs closure) mostClosure && inside 1 mostSum whole && leb part whole)
+    (share closure part whole)
 
 abbrev pub angleShareStep : ℤ → ℕ → ℕ → Told
-angleShareStep w j n = inRange (leb (natAbs w) 6480000 && inside 1 64 n && leb j (n + 1)) (share w j (n + 1))
+angleShareStep w j n =
+    inRange (leb (natAbs w) halfCircle && inside 1 mostLegs n && leb j (n + 1)) (share w j (n + 1))

@@ -1,5 +1,6 @@
 // The doubled area of a loop, by its stations' offsets: northing, then easting, of each.
 use answer::Amount;
+use answer::limit::MOST_LEGS;
 use whole::Whole;
 ghost use mathlib.Core.Path.{_≡_};
 ghost use mathlib.Core.Bool.{true, _&&_};
@@ -8,7 +9,18 @@ ghost use lib.Dec.{leb};
 ghost use lib.ListN.{length, getD};
 ghost use lib.IntN.{pos, natAbs};
 ghost use Rattle.answer.specs.Told.{told};
+ghost use Rattle.answer.specs.Limit.{mostLegs};
+ghost use Rattle.steps.specs.Area.{mostOffset};
 ghost use Rattle.steps.specs.Area.{northing, easting, areaStep, cross as Area·cross, doubled, small};
+
+// "offsets of size up to 130,000,000", in hundredths of a foot: the most.
+const MOST_OFFSET: i64 = 130_000_000;
+
+// "offsets of size up to 130,000,000", in hundredths of a foot: the least.
+const LEAST_OFFSET: i64 = -MOST_OFFSET;
+
+// "1 to 64 stations", as many as a loop may have legs, with two offsets each.
+const MOST_WORDS: usize = 2 * MOST_LEGS;
 
 fn word(offsets: &[i64], at: usize) -> Whole
     requires { ⌜ at < length (now offsets) ⌝ }
@@ -19,10 +31,10 @@ fn word(offsets: &[i64], at: usize) -> Whole
 
 // Whether an offset is within its range: by two comparisons, which cost less than its size.
 fn within(z: Whole) -> bool
-    ensures { λ r. ⌜ r ≡ leb (natAbs (z .v)) 130000000 ⌝ }
+    ensures { λ r. ⌜ r ≡ leb (natAbs (z .v)) mostOffset ⌝ }
 {
-    let least = Whole { v: -130000000 };
-    let most = Whole { v: 130000000 };
+    let least = Whole { v: LEAST_OFFSET };
+    let most = Whole { v: MOST_OFFSET };
     if z.less(least) {
         return false;
     }
@@ -35,7 +47,8 @@ fn within(z: Whole) -> bool
 // Whether both offsets of station i are within their range.
 fn near(offsets: &[i64], i: usize) -> bool
     requires { ⌜ 2 * i + 1 < length (now offsets) ⌝ }
-    ensures { λ r. ⌜ r ≡ (leb (natAbs (northing (now (offsets .entry)) i)) 130000000 && leb (natAbs (easting (now (offsets .entry)) i)) 130000000) ⌝ }
+    ensures { λ r. ⌜ r ≡ (leb (natAbs (northing (now (offsets .entry)) i)) mostOffset
+        && leb (natAbs (easting (now (offsets .entry)) i)) mostOffset) ⌝ }
 {
     within(word(offsets, 2 * i)) && within(word(offsets, 2 * i + 1))
 }
@@ -60,7 +73,7 @@ fn offset(offsets: &[i64], at: usize) -> Whole
     requires { ⌜ small (now offsets) ≡ true ⌝ }
     requires { ⌜ at < length (now offsets) ⌝ }
     ensures is { λ r. ⌜ r .v ≡ getD (now (offsets .entry)) at (pos 0) ⌝ }
-    ensures size { λ r. ⌜ natAbs (r .v) ≤ 130000000 ⌝ }
+    ensures size { λ r. ⌜ natAbs (r .v) ≤ mostOffset ⌝ }
 {
     word(offsets, at)
 }
@@ -70,7 +83,7 @@ fn cross(offsets: &[i64], i: usize, j: usize) -> Whole
     requires { ⌜ small (now offsets) ≡ true ⌝ }
     requires { ⌜ (2 * i + 1 < length (now offsets)) × (2 * j + 1 < length (now offsets)) ⌝ }
     ensures is { λ r. ⌜ r .v ≡ Area·cross (now (offsets .entry)) i j ⌝ }
-    ensures size { λ r. ⌜ natAbs (r .v) ≤ 33800000000000000 ⌝ }
+    ensures size { λ r. ⌜ natAbs (r .v) ≤ 2 * mostOffset * mostOffset ⌝ }
 {
     let ahead = offset(offsets, 2 * i).times(offset(offsets, 2 * j + 1));
     let back = offset(offsets, 2 * j).times(offset(offsets, 2 * i + 1));
@@ -91,7 +104,7 @@ fn next(i: usize, n: usize) -> usize
 // The sum round the stations.
 fn round(offsets: &[i64], n: usize) -> Whole
     requires { ⌜ small (now offsets) ≡ true ⌝ }
-    requires { ⌜ (2 * n ≡ length (now offsets)) × (0 < n) × (n ≤ 64) ⌝ }
+    requires { ⌜ (2 * n ≡ length (now offsets)) × (0 < n) × (n ≤ mostLegs) ⌝ }
     ensures { λ r. ⌜ r .v ≡ doubled (now (offsets .entry)) ⌝ }
 {
     let mut sum = Whole { v: 0 };
@@ -111,7 +124,7 @@ pub fn doubled_area(offsets: &[i64]) -> Amount
     if words < 2 {
         return Amount::OutOfRange;
     }
-    if 128 < words {
+    if MOST_WORDS < words {
         return Amount::OutOfRange;
     }
     if words % 2 != 0 {

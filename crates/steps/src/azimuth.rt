@@ -1,35 +1,45 @@
 // Azimuths, clockwise from south, in tenths of a second: carried along the legs, closed on the given one, and balanced.
+use crate::wide;
 use answer::Amount;
 use answer::Count;
 use answer::Verdict;
+use minutes::quadrant::CIRCLE;
+use minutes::quadrant::HALF_CIRCLE;
 use whole::Whole;
 ghost use mathlib.Core.Path.{_≡_};
-ghost use Prim.Native.Nat.{_%_, _<_};
+ghost use Prim.Native.Nat.{_*_, _%_, _<_};
 ghost use Rattle.answer.specs.Told.{told, toldCount, toldVerdict};
+ghost use Rattle.minutes.specs.Quadrant.{circle};
 ghost use Rattle.steps.specs.Azimuth.{fromMarkStep, onwardStep, misclosureStep, misclosureTest, balancedStep};
+
+// Two whole turns, in tenths of a second.
+const TWO_CIRCLES: u32 = 2 * CIRCLE;
+
+// "Refused (8) exactly when its size exceeds 100 x (n+1)": the tenths that each angle may be off.
+const MOST_PER_ANGLE: u64 = 100;
 
 // A sum of less than three circles, modulo the circle. It is compared and not divided: along the legs each azimuth waits for the one before it.
 fn modulo(sum: u32) -> u32
-    requires { ⌜ sum < 38880000 ⌝ }
-    ensures { λ r. ⌜ r ≡ sum % 12960000 ⌝ }
+    requires { ⌜ sum < 3 * circle ⌝ }
+    ensures { λ r. ⌜ r ≡ sum % circle ⌝ }
 {
-    if sum < 12960000 {
+    if sum < CIRCLE {
         return sum;
     }
-    if sum < 25920000 {
-        return sum - 12960000;
+    if sum < TWO_CIRCLES {
+        return sum - CIRCLE;
     }
-    sum - 25920000
+    sum - TWO_CIRCLES
 }
 
 // The azimuth of leg 1, from the azimuth to the mark and its angle right.
 pub fn from_mark(mark: u32, angle: u32) -> Count
     ensures { λ r. ⌜ toldCount r ≡ fromMarkStep mark angle ⌝ }
 {
-    if 12960000 <= mark {
+    if CIRCLE <= mark {
         return Count::OutOfRange;
     }
-    if 12960000 <= angle {
+    if CIRCLE <= angle {
         return Count::OutOfRange;
     }
     Count::Is(modulo(mark + angle) as u64)
@@ -39,30 +49,30 @@ pub fn from_mark(mark: u32, angle: u32) -> Count
 pub fn onward(before: u32, angle: u32) -> Count
     ensures { λ r. ⌜ toldCount r ≡ onwardStep before angle ⌝ }
 {
-    if 12960000 <= before {
+    if CIRCLE <= before {
         return Count::OutOfRange;
     }
-    if 12960000 <= angle {
+    if CIRCLE <= angle {
         return Count::OutOfRange;
     }
-    Count::Is(modulo(before + 6480000 + angle) as u64)
+    Count::Is(modulo(before + HALF_CIRCLE + angle) as u64)
 }
 
 // The angular misclosure: carried less given, the short way round.
 pub fn misclosure(carried: u32, given: u32) -> Amount
     ensures { λ r. ⌜ told r ≡ misclosureStep carried given ⌝ }
 {
-    if 12960000 <= carried {
+    if CIRCLE <= carried {
         return Amount::OutOfRange;
     }
-    if 12960000 <= given {
+    if CIRCLE <= given {
         return Amount::OutOfRange;
     }
-    let d = ((carried + 12960000 - given) % 12960000) as u64;
-    if d <= 6480000 {
+    let d = ((carried + CIRCLE - given) % CIRCLE) as u64;
+    if d <= wide::HALF_CIRCLE {
         return Amount::Is(Whole::of_size(d));
     }
-    Amount::Is(Whole::of_size(12960000 - d).opposite())
+    Amount::Is(Whole::of_size(wide::CIRCLE - d).opposite())
 }
 
 // Whether a misclosure over n legs, so n + 1 angles, is within its limit.
@@ -70,16 +80,16 @@ pub fn closes_angles(w: Whole, n: u64) -> Verdict
     ensures { λ r. ⌜ toldVerdict r ≡ misclosureTest (w .v) n ⌝ }
 {
     let size = w.size();
-    if 6480000 < size {
+    if wide::HALF_CIRCLE < size {
         return Verdict::OutOfRange;
     }
     if n < 1 {
         return Verdict::OutOfRange;
     }
-    if 64 < n {
+    if wide::MOST_LEGS < n {
         return Verdict::OutOfRange;
     }
-    if size <= 100 * (n + 1) {
+    if size <= MOST_PER_ANGLE * (n + 1) {
         return Verdict::Passes;
     }
     Verdict::Fails
@@ -89,15 +99,15 @@ pub fn closes_angles(w: Whole, n: u64) -> Verdict
 pub fn balanced(azimuth: u32, share: Whole) -> Count
     ensures { λ r. ⌜ toldCount r ≡ balancedStep azimuth (share .v) ⌝ }
 {
-    if 12960000 <= azimuth {
+    if CIRCLE <= azimuth {
         return Count::OutOfRange;
     }
     let size = share.size();
-    if 6480000 < size {
+    if wide::HALF_CIRCLE < size {
         return Count::OutOfRange;
     }
     if share.below_zero() {
-        return Count::Is((azimuth as u64 + size) % 12960000);
+        return Count::Is((azimuth as u64 + size) % wide::CIRCLE);
     }
-    Count::Is((azimuth as u64 + 12960000 - size) % 12960000)
+    Count::Is((azimuth as u64 + wide::CIRCLE - size) % wide::CIRCLE)
 }

@@ -6,11 +6,31 @@ use whole::Whole;
 ghost use mathlib.Core.Path.{_≡_};
 ghost use Prim.Native.Nat.{_+_, _*_, _<_, _≤_};
 ghost use Rattle.answer.specs.Told.{toldCount, toldVerdict};
-ghost use Rattle.steps.specs.Closure.{closureTest, precisionStep};
+ghost use Rattle.steps.specs.Closure.{mostTested, closureTest, precisionStep};
+
+// "S of 1..1,300,000,000": the most that the sum of grid distances comes to.
+pub const MOST_SUM: u64 = 1_300_000_000;
+
+// "closures of size up to 1,200,000,000 for the test"
+const MOST_TESTED: u64 = 1_200_000_000;
+
+// "26,000 for the number", and for the shares: a closure that passes the test is no larger.
+pub const MOST_CLOSURE: u64 = 26_000;
+
+// "50,000 x 50,000 x (C_N squared + C_E squared)": a closure in hundredths is at most one of
+// 50,000 parts of S in thousandths, which is 1 in 5,000.
+const CLOSURE_PARTS: u64 = 50_000;
+
+// 50,000 squared. The rule multiplies the closures' squares by it; the code divides S squared.
+const PARTS_SQUARED: u64 = CLOSURE_PARTS * CLOSURE_PARTS;
+
+// "P squared x 100 x (C_N squared + C_E squared)": a hundredth of a foot is 10 thousandths, and 100
+// is 10 squared.
+const HUNDREDTH_SQUARED: u64 = 100;
 
 // The sum of two squares.
 fn squares(n: u64, e: u64) -> u64
-    requires { ⌜ (n ≤ 1200000000) × (e ≤ 1200000000) ⌝ }
+    requires { ⌜ (n ≤ mostTested) × (e ≤ mostTested) ⌝ }
     ensures { λ r. ⌜ r ≡ n * n + e * e ⌝ }
 {
     n * n + e * e
@@ -22,19 +42,19 @@ pub fn closes(north: Whole, east: Whole, s: u64) -> Verdict
 {
     let n = north.size();
     let e = east.size();
-    if 1200000000 < n {
+    if MOST_TESTED < n {
         return Verdict::OutOfRange;
     }
-    if 1200000000 < e {
+    if MOST_TESTED < e {
         return Verdict::OutOfRange;
     }
     if s < 1 {
         return Verdict::OutOfRange;
     }
-    if 1300000000 < s {
+    if MOST_SUM < s {
         return Verdict::OutOfRange;
     }
-    if squares(n, e) <= s * s / 2500000000 {
+    if squares(n, e) <= s * s / PARTS_SQUARED {
         return Verdict::Passes;
     }
     Verdict::Fails
@@ -46,21 +66,21 @@ pub fn precision(north: Whole, east: Whole, s: u64) -> Count
 {
     let n = north.size();
     let e = east.size();
-    if 26000 < n {
+    if MOST_CLOSURE < n {
         return Count::OutOfRange;
     }
-    if 26000 < e {
+    if MOST_CLOSURE < e {
         return Count::OutOfRange;
     }
     if s < 1 {
         return Count::OutOfRange;
     }
-    if 1300000000 < s {
+    if MOST_SUM < s {
         return Count::OutOfRange;
     }
     let both = squares(n, e);
     if both == 0 {
         return Count::Is(0);
     }
-    Count::Is(root::whole_root(s * s / (100 * both)))
+    Count::Is(root::whole_root(s * s / (HUNDREDTH_SQUARED * both)))
 }

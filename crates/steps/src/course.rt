@@ -8,10 +8,19 @@ ghost use Prim.Native.Nat.{_≤_};
 ghost use lib.Dec.{eqb, leb};
 ghost use lib.IntN.{pos, natAbs};
 ghost use Rattle.answer.specs.Told.{told, inRange};
+ghost use Rattle.minutes.specs.Exact.{nineDecimals};
 ghost use Rattle.minutes.specs.Quadrant.{turned};
 ghost use Rattle.minutes.specs.Entry.{entry};
 ghost use Rattle.sines.specs.Sine.{entryIn};
+ghost use Rattle.steps.specs.Course.{mostGrid};
 ghost use Rattle.steps.specs.Course.{north as Course·north, east as Course·east, move as Course·move, courseStep, toldOf};
+
+// "a grid distance of 0..20,100,000", in thousandths of a foot
+const MOST_GRID: u64 = 20_100_000;
+
+// "the nearest hundredth, rounded once from the exact product": thousandths of a foot by nine
+// decimals, of which 10 ^ 10 make a hundredth.
+const PER_HUNDREDTH: u64 = 10_000_000_000;
 
 // Both moves of a leg, or its input was out of the range stated with the step.
 pub enum Moves {
@@ -42,11 +51,11 @@ impl Moves {
 
 // How far a distance moves along an axis, by the size of the sine that counts there and its sign: the size is rounded, and the opposite sign put on.
 fn move_by(distance: u64, size: u32, negative: bool) -> Whole
-    requires { ⌜ distance ≤ 20100000 ⌝ }
-    requires { ⌜ size ≤ 1000000000 ⌝ }
+    requires { ⌜ distance ≤ mostGrid ⌝ }
+    requires { ⌜ size ≤ nineDecimals ⌝ }
     ensures { λ r. ⌜ r .v ≡ Course·move distance (turned negative (pos size)) ⌝ }
 {
-    let moved = Whole::of_size(whole::half_up(distance * size as u64, 10000000000));
+    let moved = Whole::of_size(whole::half_up(distance * size as u64, PER_HUNDREDTH));
     if negative {
         return moved;
     }
@@ -58,7 +67,7 @@ pub fn moves_in(table: &[u32], distance: u64, azimuth: u32) -> Moves
     ensures is_north { λ r. ⌜ toldOf Course·north r ≡ courseStep (entryIn (now (table .entry))) Course·north distance azimuth ⌝ }
     ensures is_east { λ r. ⌜ toldOf Course·east r ≡ courseStep (entryIn (now (table .entry))) Course·east distance azimuth ⌝ }
 {
-    if 20100000 < distance {
+    if MOST_GRID < distance {
         return Moves::OutOfRange;
     }
     match sines::sides_in(table, azimuth) {
@@ -72,10 +81,12 @@ pub fn moves_in(table: &[u32], distance: u64, azimuth: u32) -> Moves
 
 // One of them, by the one sine that counts.
 fn moved(distance: u64, sine: Amount) -> Amount
-    requires { ⌜ natAbs (told sine .value) ≤ 1000000000 ⌝ }
-    ensures { λ r. ⌜ told r ≡ inRange (leb distance 20100000 && eqb (told sine .number) 0) (Course·move distance (told sine .value)) ⌝ }
+    requires { ⌜ natAbs (told sine .value) ≤ nineDecimals ⌝ }
+    ensures { λ r. ⌜ told r
+        ≡ inRange (leb distance mostGrid && eqb (told sine .number) 0)
+        (Course·move distance (told sine .value)) ⌝ }
 {
-    if 20100000 < distance {
+    if MOST_GRID < distance {
         return Amount::OutOfRange;
     }
     match sine {

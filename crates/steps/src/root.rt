@@ -3,6 +3,7 @@
 // remainder and gives one digit of the root.
 ghost use mathlib.Core.Path.{_≡_};
 ghost use Prim.Native.Nat.{_-_, _*_, _^_, _<_, _≤_};
+ghost use Rattle.steps.specs.Root.{pairs};
 ghost use Rattle.steps.specs.Root.{WholeRoot, NoneAbove, digit as Root·digit};
 ghost use Rattle.steps.specs.Root.{withPair, worked as Root·worked};
 
@@ -66,9 +67,9 @@ fn with_pair(w: Working, pair: u64) -> Working
 
 // A number set off in nine pairs. The pairs of zeros in front give no digit and are passed over.
 fn set_off(x: u64) -> Pairs
-    requires { ⌜ x < 100 ^ 9 ⌝ }
-    ensures nine { λ r. ⌜ (r .left ≤ 9) × (r .number < 100 ^ 9) ⌝ }
-    ensures moved { λ r. ⌜ r .number ≡ x * 100 ^ (9 - r .left) ⌝ }
+    requires { ⌜ x < 100 ^ pairs ⌝ }
+    ensures nine { λ r. ⌜ (r .left ≤ pairs) × (r .number < 100 ^ pairs) ⌝ }
+    ensures moved { λ r. ⌜ r .number ≡ x * 100 ^ (pairs - r .left) ⌝ }
 {
     let mut number = x;
     let mut left = PAIRS;
@@ -84,8 +85,8 @@ fn set_off(x: u64) -> Pairs
 
 // The working of a whole number, pair after pair.
 fn worked(x: u64) -> Working
-    requires { ⌜ x < 100 ^ 9 ⌝ }
-    ensures { λ r. ⌜ r ≡ Root·worked 9 x ⌝ }
+    requires { ⌜ x < 100 ^ pairs ⌝ }
+    ensures { λ r. ⌜ r ≡ Root·worked pairs x ⌝ }
 {
     let pairs = set_off(x);
     let mut number = pairs.number;
@@ -104,7 +105,7 @@ fn worked(x: u64) -> Working
 
 // The largest r with r * r <= x.
 pub fn whole_root(x: u64) -> u64
-    requires { ⌜ x < 100 ^ 9 ⌝ }
+    requires { ⌜ x < 100 ^ pairs ⌝ }
     ensures { λ r. ⌜ WholeRoot x r ⌝ }
 {
     worked(x).root

@@ -1,17 +1,22 @@
 // The one share rule, for seconds and for feet: the share of a total at a part of a whole, so that the last share is the whole total.
+use crate::closure::MOST_CLOSURE;
+use crate::closure::MOST_SUM;
+use crate::wide;
 use answer::Amount;
 use whole::Whole;
 ghost use mathlib.Core.Path.{_≡_};
 ghost use Prim.Native.Nat.{_+_, _≤_, _<_};
 ghost use lib.IntN.{natAbs};
 ghost use Rattle.answer.specs.Told.{told};
+ghost use Rattle.minutes.specs.Quadrant.{halfCircle};
+ghost use Rattle.steps.specs.Closure.{mostSum};
 ghost use Rattle.steps.specs.Share.{share as Share·share, shareStep, angleShareStep};
 
 // By the total's size, whose sign is put back: so the sign is looked at once, and the size is the one that the callers tested.
 fn share_of(total: Whole, part: u64, whole: u64) -> Whole
-    requires { ⌜ natAbs (total .v) ≤ 6480000 ⌝ }
+    requires { ⌜ natAbs (total .v) ≤ halfCircle ⌝ }
     requires { ⌜ part ≤ whole ⌝ }
-    requires { ⌜ (0 < whole) × (whole ≤ 1300000000) ⌝ }
+    requires { ⌜ (0 < whole) × (whole ≤ mostSum) ⌝ }
     ensures { λ r. ⌜ r .v ≡ Share·share (total .v) part whole ⌝ }
 {
     let size = Whole::of_size(whole::half_up(part * total.size(), whole));
@@ -25,13 +30,13 @@ fn share_of(total: Whole, part: u64, whole: u64) -> Whole
 pub fn share(closure: Whole, part: u64, whole: u64) -> Amount
     ensures { λ r. ⌜ told r ≡ shareStep (closure .v) part whole ⌝ }
 {
-    if 26000 < closure.size() {
+    if MOST_CLOSURE < closure.size() {
         return Amount::OutOfRange;
     }
     if whole < 1 {
         return Amount::OutOfRange;
     }
-    if 1300000000 < whole {
+    if MOST_SUM < whole {
         return Amount::OutOfRange;
     }
     if whole < part {
@@ -44,13 +49,13 @@ pub fn share(closure: Whole, part: u64, whole: u64) -> Amount
 pub fn angle_share(w: Whole, j: u64, n: u64) -> Amount
     ensures { λ r. ⌜ told r ≡ angleShareStep (w .v) j n ⌝ }
 {
-    if 6480000 < w.size() {
+    if wide::HALF_CIRCLE < w.size() {
         return Amount::OutOfRange;
     }
     if n < 1 {
         return Amount::OutOfRange;
     }
-    if 64 < n {
+    if wide::MOST_LEGS < n {
         return Amount::OutOfRange;
     }
     if n + 1 < j {
