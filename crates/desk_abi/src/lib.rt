@@ -2,6 +2,6 @@
 // lists. Each is thin over the proved function, and promises the same definitions. What is told comes back as the refusal's number, 0 for none, and through
 // the caller's own numbers; nothing is allocated or kept.
 mod arithmetic;
-mod writing;
 mod tapes;
 mod tell;
+mod writing;

@@ -9,7 +9,23 @@ use Rattle.records.specs.declared.Record.{Record}
 use Rattle.records.specs.declared.Record.the-variants as kinds
 use Rattle.records.specs.Bytes.{Width, two, four, size, num, bytes, Coding, unsigned, twosComplement, meant, written}
 
--- a field: how it is written, and its range
+-- ---- "One byte of kind": the five kinds
+abbrev pub rowKind : ℕ
+rowKind = 5
+
+abbrev pub projectKind : ℕ
+projectKind = 1
+
+abbrev pub startKind : ℕ
+startKind = 2
+
+abbrev pub legKind : ℕ
+legKind = 3
+
+abbrev pub closeKind : ℕ
+closeKind = 4
+
+-- ---- a field: how it is written, and its range
 pub record Field : Type 0 where
   pub width : Width
   pub coding : Coding
@@ -47,11 +63,11 @@ row kind fields = record { kind = kind; fields = fields }
 
 unfoldable pub table : List Kind
 table =
-    row 5 (minute ∷ factor ∷ [])
-    ∷ row 1 (minute ∷ elevation ∷ [])
-    ∷ row 2 (coordinate ∷ coordinate ∷ angle ∷ [])
-    ∷ row 3 (angle ∷ distance ∷ [])
-    ∷ row 4 (angle ∷ coordinate ∷ coordinate ∷ angle ∷ [])
+    row rowKind (minute ∷ factor ∷ [])
+    ∷ row projectKind (minute ∷ elevation ∷ [])
+    ∷ row startKind (coordinate ∷ coordinate ∷ angle ∷ [])
+    ∷ row legKind (angle ∷ distance ∷ [])
+    ∷ row closeKind (angle ∷ coordinate ∷ coordinate ∷ angle ∷ [])
     ∷ []
 
 -- the fields of a kind: those of its row; a kind that has none is never taken
@@ -104,11 +120,11 @@ abbrev pub rec : ℕ → List ℤ → Rec
 rec kind values = record { kind = kind; values = values }
 
 unfoldable pub recOf : Record → Rec
-recOf (kinds.Row m f) = rec 5 (pos m ∷ pos f ∷ [])
-recOf (kinds.Project m e) = rec 1 (pos m ∷ e .v ∷ [])
-recOf (kinds.Start n e m) = rec 2 (pos n ∷ pos e ∷ pos m ∷ [])
-recOf (kinds.Leg a d) = rec 3 (pos a ∷ pos d ∷ [])
-recOf (kinds.Close a n e m) = rec 4 (pos a ∷ pos n ∷ pos e ∷ pos m ∷ [])
+recOf (kinds.Row m f) = rec rowKind (pos m ∷ pos f ∷ [])
+recOf (kinds.Project m e) = rec projectKind (pos m ∷ e .v ∷ [])
+recOf (kinds.Start n e m) = rec startKind (pos n ∷ pos e ∷ pos m ∷ [])
+recOf (kinds.Leg a d) = rec legKind (pos a ∷ pos d ∷ [])
+recOf (kinds.Close a n e m) = rec closeKind (pos a ∷ pos n ∷ pos e ∷ pos m ∷ [])
 
 abbrev pub goodRecord : Record → Bool
 goodRecord r = goodOf (recOf r .kind) (recOf r .values)

@@ -1,5 +1,15 @@
 // The table of kinds in code: the length of each kind's body, and the ranges of its fields. Reader and writer share them.
+use crate::CLOSE;
+use crate::CLOSE_BODY;
+use crate::LEG;
+use crate::LEG_BODY;
+use crate::PROJECT;
+use crate::PROJECT_BODY;
+use crate::ROW;
+use crate::ROW_BODY;
 use crate::Record;
+use crate::START;
+use crate::START_BODY;
 use whole::Whole;
 ghost use mathlib.Core.Path.{_≡_};
 ghost use mathlib.Core.List.{[], _∷_};
@@ -10,11 +20,11 @@ pub fn body_len(kind: u8) -> usize
     ensures { λ r. ⌜ r ≡ bodyOf kind ⌝ }
 {
     match kind {
-        5 => 6,
-        1 => 4,
-        2 => 12,
-        3 => 8,
-        4 => 16,
+        ROW => ROW_BODY,
+        PROJECT => PROJECT_BODY,
+        START => START_BODY,
+        LEG => LEG_BODY,
+        CLOSE => CLOSE_BODY,
         _ => 0,
     }
 }
@@ -81,11 +91,11 @@ pub fn kind(given: Record) -> u8
     ensures { λ r. ⌜ r ≡ recOf given .kind ⌝ }
 {
     match given {
-        Record::Row { .. } => 5,
-        Record::Project { .. } => 1,
-        Record::Start { .. } => 2,
-        Record::Leg { .. } => 3,
-        Record::Close { .. } => 4,
+        Record::Row { .. } => ROW,
+        Record::Project { .. } => PROJECT,
+        Record::Start { .. } => START,
+        Record::Leg { .. } => LEG,
+        Record::Close { .. } => CLOSE,
     }
 }
 

@@ -127,11 +127,11 @@ past (x ∷ p) l = past p l
 
 -- a record whose numbers are in range, with anything behind it
 module _ (k : ℕ) (vs : List ℤ) (l : List ℕ) (good : goodOf k vs ≡ true) where
-  length-body : length (spell (fieldsOf k) vs) ≡ bodyOf k
+  pub length-body : length (spell (fieldsOf k) vs) ≡ bodyOf k
   unfolding bodyOf goodOf
   length-body = length-spell (fieldsOf k) vs good
 
-  numbers-back : numbersOf k (bytesOf k vs ++ l) ≡ vs
+  pub numbers-back : numbersOf k (bytesOf k vs ++ l) ≡ vs
   unfolding numbersOf bytesOf goodOf fieldsOf
   numbers-back = numbers-drop (fieldsOf k) 1 (bytesOf k vs ++ l) 0 ∙ numbers-spell (fieldsOf k) vs l (look-fits table k table-fits) good
 

@@ -1,92 +1,180 @@
--- What whoever walks the legs of a tape that reads relies on: where each angle and distance of its fields stands on the tape itself. It is so because the
--- fields are those at the places that the last state tells, nine bytes a leg, and the close behind them.
-use Prim.Native.Nat.{ℕ, suc, _+_, _-_, _*_, _≤_, _<_}
+-- The walk along the legs of a tape that reads. What stands at the place of leg k is the leg, or the close after the last; its angle and
+-- distance are the fields' own, and the next leg stands where the sight says. Callers know no other law of places.
+use Prim.Native.Nat.{ℕ, zero, suc, _+_, _≤_, _<_}
 use native.Mathlib.Omega.{arith}
-use mathlib.Core.Path.{_≡_, refl, sym, _∙_}
-use mathlib.Core.List.{List, []}
-use mathlib.Core.Bool.{Bool, true, false}
-use lib.Dec.{ltb}
-use lib.ListN.{length, getD, replicate}
-use borrow.Author.Tests.{ltb-true, ltb-false}
-use Rattle.whole.specs.Filled.{filled}
-use Rattle.whole.proofs.Filling.{filled-length, filled-at, filled-behind}
-use Rattle.records.specs.Bytes.{fourAt}
-use Rattle.tape.specs.Tape.{readingOf}
-use Rattle.tape.specs.Fields.{fieldsOf, controlOf, takenIf, takenOf, DoesRead}
-use Rattle.tape.specs.declared.Control.{Control}
-use Rattle.tape.specs.declared.Reading.{Reading}
-use Rattle.tape.specs.declared.Reading.the-variants as reading
-use Rattle.tape.specs.declared.Taken.the-variants as taken
-use Rattle.tape.proofs.Held.{zeros}
-use Rattle.tape.proofs.Longest.{long-cut}
-use Rattle.tape.proofs.Numbers.{four-there}
-use Rattle.tape.proofs.Gathering.{Stands, stands, leg-place, in-leg, begun, closed}
+use native.Mathlib.Nat.{add-zero}
+use mathlib.Core.Path.{_≡_, refl, sym, _∙_, ap}
+use mathlib.Core.Bool.{Bool, true, false, cond}
+use mathlib.Core.Logic.{_⊎_, inl, inr, ⊎-elim}
+use mathlib.Core.List.{List, [], _∷_, map}
+use lib.Dec.{eqb}
+use lib.ListN.{length, getD, drop, length-drop, List·getD-map}
+use lib.Seq.{getD-drop, drop-drop}
+use borrow.Author.Tests.{le-leb, eqb-true}
+use Rattle.records.specs.Bytes.{four, num}
+use Rattle.records.specs.Record.{Rec, rowKind, projectKind, startKind, legKind, closeKind, fieldsOf, table, bodyOf}
+use Rattle.tape.specs.Tape.{isLeg, recordsOf}
+use Rattle.tape.specs.Fields.{Fields, number, pick, none, placeOf, turns, angleOf, distanceOf, picked, DoesRead}
+use Rattle.tape.specs.Fields.{fieldsOf as named}
+use Rattle.tape.specs.Legs.{sightAt, Rest, Legs, last, leg, Order, row, opens, LegAt}
+use Rattle.tape.proofs.Ordered.{order-of}
+use Rattle.tape.proofs.Picks.{pick-yes, pick-no, skips, place-on, place-here, place-skips, leg-turns, close-turns}
+use Rattle.tape.proofs.Rest.{kind-there, whole-there, rest-start, rest-next, number-there}
 
--- ---- what is taken tells the reading, and the fields but for the legs
-pub took : (tape : List ℕ) (c : Control) → takenOf tape ≡ taken.Reads c → DoesRead tape × (c ≡ controlOf (fieldsOf tape))
-unfolding takenOf
-took tape c = go (readingOf tape) refl
+-- ---- the order: as many records turn as there are legs, and one more; the first of them are the legs
+legs-long : {rs : List Rec} → Legs rs → length (pick turns rs) ≡ suc (length (pick isLeg rs))
+unfolding pick
+legs-long (last r e) = rw e
+legs-long (leg r {rs} e l) = rw (pick-yes turns r rs (leg-turns (r .kind) e), pick-yes isLeg r rs e, legs-long l)
+
+-- a record that is no leg and does not turn changes neither list, and one that is a leg is the first of both
+abbrev Same : List Rec → Type 0
+Same rs = (k : ℕ) → k < length (pick isLeg rs) → getD (pick turns rs) k none ≡ getD (pick isLeg rs) k none
+
+same-leg : (r : Rec) (rs : List Rec) → isLeg (r .kind) ≡ true → Same rs → Same (r ∷ rs)
+same-leg r rs e ih = rw (pick-yes turns r rs (leg-turns (r .kind) e), pick-yes isLeg r rs e) go
   where
-    go : (r : Reading) → readingOf tape ≡ r → takenIf r (fieldsOf tape) ≡ taken.Reads c → DoesRead tape × (c ≡ controlOf (fieldsOf tape))
-    go (reading.Reads st) e h = (record { last = st; reads = e }, cc)
-    go (reading.Refused n p) e h = let z : _≡_ {A = ℕ} 0 1 = cc in absurd (omega arith)
+    go : (k : ℕ) → k < suc (length (pick isLeg rs)) → getD (r ∷ pick turns rs) k none ≡ getD (r ∷ pick isLeg rs) k none
+    go zero low = refl
+    go (suc k) low = ih k (omega arith)
 
-pub took-not : (tape : List ℕ) (n p : ℕ) → takenOf tape ≡ taken.Refused n p → readingOf tape ≡ reading.Refused n p
-unfolding takenOf
-took-not tape n p = go (readingOf tape) refl
-  where
-    go : (r : Reading) → readingOf tape ≡ r → takenIf r (fieldsOf tape) ≡ taken.Refused n p → readingOf tape ≡ reading.Refused n p
-    go (reading.Reads st) e h = let z : _≡_ {A = ℕ} 0 1 = cc in absurd (omega arith)
-    go (reading.Refused m q) e h = e ∙ cc
+legs-same : {rs : List Rec} → Legs rs → Same rs
+unfolding pick
+legs-same (last r e) = λ k low. absurd (omega (arith, ap length (pick-no isLeg r [] (rw e))))
+legs-same (leg r {rs} e l) = same-leg r rs e (legs-same l)
 
--- ---- where the legs and the close of a tape that reads stand
+module _ (k : ℕ) (r : Rec) (rs : List Rec) (is : r .kind ≡ k) (still : turns k ≡ false) (none : isLeg k ≡ false) where
+  skip-long : length (pick turns rs) ≡ suc (length (pick isLeg rs)) → length (pick turns (r ∷ rs)) ≡ suc (length (pick isLeg (r ∷ rs)))
+  skip-long e = rw (skips turns k r rs is still, skips isLeg k r rs is none) e
+
+  skip-same : Same rs → Same (r ∷ rs)
+  skip-same e = rw (skips turns k r rs is still, skips isLeg k r rs is none) e
+
+pub order-long : {rs : List Rec} → Order rs → length (pick turns rs) ≡ suc (length (pick isLeg rs))
+order-long (row r {rs} e o) = skip-long rowKind r rs e refl refl (order-long o)
+order-long (opens p s l {rs} one two is legs) =
+    skip-long projectKind p _ one refl refl (skip-long startKind s _ two refl refl (legs-long (leg l is legs)))
+
+order-same : {rs : List Rec} → Order rs → Same rs
+order-same (row r {rs} e o) = skip-same rowKind r rs e refl refl (order-same o)
+order-same (opens p s l {rs} one two is legs) =
+    skip-same projectKind p _ one refl refl (skip-same startKind s _ two refl refl (legs-same (leg l is legs)))
+
+-- ---- what stands at the place of a leg
+record Front (tape : List ℕ) (k at : ℕ) : Type 0 where
+  r : Rec
+  rs : List Rec
+  rest : Rest tape at (r ∷ rs)
+  is : getD (pick turns (recordsOf tape)) k none ≡ r
+  kind : (isLeg (r .kind) ≡ true) ⊎ (r .kind ≡ closeKind)
+
+module _ (tape : List ℕ) (k at : ℕ) where
+  head-is : {r : Rec} {rs : List Rec} → r ∷ rs ≡ drop k (pick turns (recordsOf tape)) → getD (pick turns (recordsOf tape)) k none ≡ r
+  head-is e = sym (rw (← e, add-zero) at (getD-drop k (pick turns (recordsOf tape)) 0 none))
+
+  front-of : {rs : List Rec} → Legs rs → Rest tape at rs → pick turns rs ≡ drop k (pick turns (recordsOf tape)) → Front tape k at
+  front-of (last r e) h less =
+      record { r = r; rs = []; rest = h; is = head-is (rw (pick-yes turns r [] (close-turns (r .kind) e)) at less); kind = inr e }
+  front-of (leg r {rs} e l) h less =
+      record { r = r; rs = rs; rest = h; is = head-is (rw (pick-yes turns r rs (leg-turns (r .kind) e)) at less); kind = inl e }
+
+  front : LegAt tape k at → Front tape k at
+  front h = front-of (h .legs) (h .rest) (h .less)
+
+-- a leg, or the close, has bytes enough for a sight, and its numbers are the sight's
+module _ (tape : List ℕ) (at : ℕ) (r : Rec) (rs : List Rec) (h : Rest tape at (r ∷ rs)) where
+  angle-of : (k : ℕ) → r .kind ≡ k → 8 ≤ bodyOf k → num four tape (at + 1) ≡ angleOf r → sightAt tape at .angle ≡ angleOf r
+  unfolding sightAt
+  angle-of k e long i =
+      rw (le-leb (at + 1 + bodyOf legKind) (length tape) (unfold bodyOf fieldsOf table in (omega (arith, rw e at (whole-there tape at r rs h))))) i
+
+  angle-is : (isLeg (r .kind) ≡ true) ⊎ (r .kind ≡ closeKind) → sightAt tape at .angle ≡ angleOf r
+  unfolding angleOf bodyOf fieldsOf table
+  angle-is =
+      ⊎-elim
+      (λ (t : isLeg (r .kind) ≡ true). let e = eqb-true (r .kind) legKind t in
+      angle-of legKind e (omega arith) (sym (number-there tape at r rs h legKind 0 (at + 1) e (omega arith) refl (omega arith))))
+      (λ (e : r .kind ≡ closeKind).
+      angle-of closeKind e (omega arith) (sym (number-there tape at r rs h closeKind 0 (at + 1) e (omega arith) refl (omega arith))))
+
+  module _ (t : isLeg (r .kind) ≡ true) where
+    is-leg : r .kind ≡ legKind
+    is-leg = eqb-true (r .kind) legKind t
+
+    fits : at + 1 + bodyOf legKind ≤ length tape
+    fits = rw is-leg at (whole-there tape at r rs h)
+
+    distance-is : sightAt tape at .distance ≡ distanceOf r
+    unfolding sightAt distanceOf fieldsOf table
+    distance-is =
+        rw (le-leb (at + 1 + bodyOf legKind) (length tape) fits)
+        (sym (number-there tape at r rs h legKind 1 (at + 5) is-leg (omega arith) refl (omega arith)))
+
+    next-is : sightAt tape at .next ≡ at + 1 + bodyOf (r .kind)
+    unfolding sightAt
+    next-is = rw (le-leb (at + 1 + bodyOf legKind) (length tape) fits, kind-there tape at r rs h, t)
+
+-- ---- leg 0 stands where the line begins
+first-at : (tape : List ℕ) {rs : List Rec} → Order rs → (at : ℕ) → Rest tape at rs → pick turns rs ≡ pick turns (recordsOf tape)
+    → LegAt tape 0 (placeOf isLeg at rs)
+first-at tape (row r {rs} e o) at h same =
+    rw (place-on isLeg r rs at (rw e))
+    (first-at tape o (at + 1 + bodyOf (r .kind)) (rest-next tape at r rs h) (rw (skips turns rowKind r rs e refl) at same))
+first-at tape (opens p s l {rs} one two is legs) at h same =
+    let g = rest-next tape at p (s ∷ l ∷ rs) h in
+    rw (place-on isLeg p (s ∷ l ∷ rs) at (rw one), place-on isLeg s (l ∷ rs) _ (rw two), place-here isLeg l rs _ is)
+    (record {
+      rs = l ∷ rs;
+      rest = rest-next tape _ s (l ∷ rs) g;
+      legs = leg l is legs;
+      less = rw (skips turns projectKind p (s ∷ l ∷ rs) one refl, skips turns startKind s (l ∷ rs) two refl) at same;
+    })
+
 module _ (tape : List ℕ) (d : DoesRead tape) where
-  there : Stands tape (d .last)
-  there = stands tape (d .last) (d .reads)
+  pub leg-first : LegAt tape 0 (named tape .opening .line)
+  unfolding picked
+  leg-first = first-at tape (order-of tape d .order) 0 (rest-start tape d) refl
 
-  place-is : fieldsOf tape .place ≡ leg-place tape (d .last) (fieldsOf tape .legs)
-  unfolding closed
-  place-is = rw (← there .fields)
+-- ---- the angle of leg k, and the closing one
+pub leg-angle : (tape : List ℕ) (k at : ℕ) → LegAt tape k at → sightAt tape at .angle ≡ getD (named tape .line .angles) k 0
+unfolding picked angleOf
+leg-angle tape k at h =
+    let f = front tape k at h in
+    angle-is tape at (f .r) (f .rs) (f .rest) (f .kind)
+    ∙ sym (List·getD-map angleOf (pick turns (recordsOf tape)) k none ∙ ap angleOf (f .is))
 
-  legs-are : fieldsOf tape .legs ≡ d .last .legs
-  unfolding closed
-  legs-are = rw (← there .fields)
+-- ---- the next leg, and the distance, where there is one more
+module _ (tape : List ℕ) (d : DoesRead tape) (k at : ℕ) (h : LegAt tape k at) (low : k < named tape .line .legs) where
+  abbrev all : List Rec
+  all = recordsOf tape
 
-  pub legs-before : 9 * fieldsOf tape .legs ≤ fieldsOf tape .place
-  legs-before = omega (arith, place-is)
+  some-left : 0 < length (pick isLeg (h .rs))
+  unfolding picked
+  some-left =
+      omega (arith, legs-long (h .legs), ap length (h .less), order-long (order-of tape d .order), length-drop k (pick turns all))
 
-  pub close-within : fieldsOf tape .place + 17 ≤ length tape
-  close-within = omega (arith, place-is, legs-are, there .long)
+  onward : {rs : List Rec} → Legs rs → rs ≡ h .rs
+      → LegAt tape (k + 1) (sightAt tape at .next) × (sightAt tape at .distance ≡ distanceOf (getD (pick turns all) k none))
+  onward (last r e) same =
+      let none : pick isLeg (h .rs) ≡ [] = rw (← same) (unfold pick in (pick-no isLeg r [] (rw e))) in
+      absurd (omega (arith, some-left, ap length none))
+  onward (leg r {rs} e l) same =
+      let rest : Rest tape at (r ∷ rs) = rw same (h .rest) in
+      let less : r ∷ pick turns rs ≡ drop k (pick turns all) = sym (pick-yes turns r rs (leg-turns (r .kind) e)) ∙ rw same (h .less) in (
+        record {
+          rs = rs;
+          rest = rw (next-is tape at r rs rest e) (rest-next tape at r rs rest);
+          legs = l;
+          less = rw (← drop-drop 1 k (pick turns all), ← less);
+        },
+        distance-is tape at r rs rest e ∙ rw (head-is tape k at less),
+      )
 
-  pub short : length tape ≤ 4811
-  short = go (ltb 4811 (length tape)) refl
-    where
-      go : (b : Bool) → ltb 4811 (length tape) ≡ b → length tape ≤ 4811
-      go true e = let r = long-cut tape [] (ltb-true _ _ e) in let z : _≡_ {A = ℕ} 0 1 = cc in absurd (omega arith)
-      go false e = ltb-false _ _ e
+  pub leg-next : LegAt tape (k + 1) (sightAt tape at .next)
+  leg-next = onward (h .legs) refl .0
 
-  pub angle-there : (k at : ℕ) → k ≤ fieldsOf tape .legs → at + 9 * (fieldsOf tape .legs - k) ≡ fieldsOf tape .place
-      → fourAt tape (at + 1) ≡ getD (fieldsOf tape .angles) k 0
-  unfolding closed begun filled
-  angle-there k at low e =
-      let here : at ≡ leg-place tape (d .last) k = omega (arith, place-is, legs-are) in
-      sym (four-there tape (at + 1) _ (rw (← there .fields, here)
-      (filled-at (in-leg tape (d .last) 1) (replicate 65 0) (suc (d .last .legs)) k (omega (arith, there .few)) (omega (arith, legs-are)))) (omega (arith, close-within)))
-
-  pub distance-there : (k at : ℕ) → k < fieldsOf tape .legs → at + 9 * (fieldsOf tape .legs - k) ≡ fieldsOf tape .place
-      → fourAt tape (at + 5) ≡ getD (fieldsOf tape .distances) k 0
-  unfolding closed begun
-  distance-there k at low e =
-      let here : at ≡ leg-place tape (d .last) k = omega (arith, place-is, legs-are) in
-      sym (four-there tape (at + 5) _ (rw (← there .fields, here)
-      (filled-at (in-leg tape (d .last) 5) (replicate 64 0) (d .last .legs) k (omega (arith, there .few)) (omega (arith, legs-are)))) (omega (arith, close-within)))
-
-  pub distances-length : length (fieldsOf tape .distances) ≡ 64
-  unfolding closed begun
-  distances-length = rw (← there .fields) (filled-length (in-leg tape (d .last) 5) (replicate 64 0) (d .last .legs))
-
-  pub distances-behind : (k : ℕ) → fieldsOf tape .legs ≤ k → getD (fieldsOf tape .distances) k 0 ≡ 0
-  unfolding closed begun
-  distances-behind k h =
-      rw (← there .fields)
-      (omega (arith, filled-behind (in-leg tape (d .last) 5) (replicate 64 0) (d .last .legs) k (omega (arith, legs-are)), zeros 64 k 1 (omega arith)))
+  pub leg-distance : sightAt tape at .distance ≡ getD (named tape .line .distances) k 0
+  unfolding picked distanceOf
+  leg-distance =
+      onward (h .legs) refl .1 ∙ ap distanceOf (order-same (order-of tape d .order) k low)
+      ∙ sym (List·getD-map distanceOf (pick isLeg all) k none)

@@ -12,6 +12,7 @@ use borrow.Author.Tests.{lt-ltb}
 use Rattle.records.specs.Bytes.{Width, two, four, size, num, bytes, Coding, unsigned, twosComplement, room, meant, written}
 use Rattle.records.specs.Record.{Field, fieldsOf, total, numbers, spell, bodyOf, bytesOf, numbersOf}
 use Rattle.tape.specs.Tape.{Step, Next, Stop, walk, stepOf, judge, onStep, start, readingOf, recordsFrom, recordsOf, tapeOf, runOf, fieldsRead}
+use Rattle.tape.specs.Fields.{AllBytes}
 use Rattle.tape.specs.declared.State.{State}
 use Rattle.tape.specs.declared.Reading.{Reading}
 use Rattle.tape.specs.declared.Reading.the-variants.{Reads}
@@ -19,7 +20,7 @@ use Rattle.whole.proofs.Branch.{by-test}
 use Rattle.tape.proofs.Walk.{step-whole}
 
 -- each element is a byte
-abbrev pub Bytes : List ℕ → Type 0
+abbrev Bytes : List ℕ → Type 0
 Bytes l = (i : ℕ) → getD l i 0 < 256
 
 -- ---- a number
@@ -87,9 +88,9 @@ again-from st at zero (x ∷ l) a e =
     (λ b. rw (record-bytes x l b (t .0), i .0 (λ j. b (suc j)), take-append-drop (bodyOf x) l), rw (← t .1) (i .1))
 
 -- a tape that reads, written again from its fields, is the same bytes
-pub same-bytes : (l : List ℕ) (a : State) → Bytes l → readingOf l ≡ Reads a → tapeOf (recordsOf l) ≡ l
+pub same-bytes : (l : List ℕ) (a : State) → AllBytes l → readingOf l ≡ Reads a → tapeOf (recordsOf l) ≡ l
 unfolding readingOf
-same-bytes l a b e = again-from start 0 0 l a e .0 b
+same-bytes l a b e = again-from start 0 0 l a e .0 (b .each)
 
 -- and its fields by themselves meet no refusal tried before 8
 pub lawful : (l : List ℕ) (a : State) → readingOf l ≡ Reads a → fieldsRead (recordsOf l) ≡ Reads a

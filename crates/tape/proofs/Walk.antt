@@ -2,20 +2,24 @@
 use Prim.Native.Nat.{ℕ, zero, suc, _+_, _≤_, _<_}
 use native.Mathlib.Omega.{arith}
 use native.Mathlib.Numerals.{add-one}
-use mathlib.Core.Path.{_≡_, refl, sym, _∙_}
+use mathlib.Core.Path.{_≡_, refl, sym, subst, _∙_}
 use mathlib.Core.List.{List, [], _∷_}
 use mathlib.Core.Bool.{Bool, true, false, cond}
-use lib.Dec.{eqb, ltb}
+use lib.Dec.{T, eqb, ltb}
 use lib.IntN.{ℤ}
 use lib.ListN.{length, getD, drop, length-drop, drop-of-length-le}
 use lib.Seq.{drop-cons, drop-drop}
 use borrow.Author.Tests.{ltb-true, eq-eqb, ne-eqb}
-use Rattle.tape.specs.Tape.{Step, Next, Stop, walk, stepOf, mayCome, roomOf, afterOf, takeOf, judge, onStep}
+use Rattle.tape.specs.Tape.{closed, Step, Next, Stop, walk, stepOf, mayCome, roomOf, afterOf, takeOf, judge, onStep}
 use Rattle.records.specs.Record.{bodyOf, goodOf, numbersOf}
 use Rattle.tape.specs.declared.State.{State}
 use Rattle.tape.specs.declared.Reading.{Reading}
 use Rattle.tape.specs.declared.Reading.the-variants.{Refused, Reads}
 use Rattle.tape.proofs.Numbers.{head-drop}
+
+-- a test that is false is not true
+pub no : {A : Type 0} → false ≡ true → A
+no e = absurd (subst T (sym e) tt)
 
 -- the rest of a record is passed over
 pub walk-skip : (st : State) (at n : ℕ) (l : List ℕ) → n ≤ length l → walk st at n l ≡ walk st at 0 (drop n l)
@@ -72,12 +76,12 @@ module _ (s : List ℕ) (st : State) (at : ℕ) where
       let g : walk st′ (suc at + n) n (drop (suc at) s) ≡ w = rw (at-front low, ← e, o, ← b, add-one) at h in
       rw (add-one, ← drop-drop n (suc at) s, ← walk-skip st′ (suc at + n) n (drop (suc at) s) f) g
 
-  at-end : length s ≤ at → walk st at 0 (drop at s) ≡ cond (eqb (st .phase) 3) (Reads st) (Refused 2 at)
+  at-end : length s ≤ at → walk st at 0 (drop at s) ≡ cond (eqb (st .phase) closed) (Reads st) (Refused 2 at)
   unfolding walk
   at-end high = rw (drop-of-length-le s high)
 
-  pub walk-closed : (w : Reading) → length s ≤ at → walk st at 0 (drop at s) ≡ w → st .phase ≡ 3 → Reads st ≡ w
+  pub walk-closed : (w : Reading) → length s ≤ at → walk st at 0 (drop at s) ≡ w → st .phase ≡ closed → Reads st ≡ w
   walk-closed w high h p = rw (at-end high, eq-eqb _ _ p) at h
 
-  pub walk-open : (w : Reading) → length s ≤ at → walk st at 0 (drop at s) ≡ w → (st .phase ≡ 3 → ⊥) → Refused 2 at ≡ w
+  pub walk-open : (w : Reading) → length s ≤ at → walk st at 0 (drop at s) ≡ w → (st .phase ≡ closed → ⊥) → Refused 2 at ≡ w
   walk-open w high h p = rw (at-end high, ne-eqb _ _ p) at h

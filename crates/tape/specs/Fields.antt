@@ -1,12 +1,14 @@
--- Paper 01, "The tape": the fields of a tape by their names. Each record puts its own in; the row that counts is the one of the mean latitude.
-use mathlib.Core.Bool.{Bool, cond, _&&_, _||_}
-use mathlib.Core.List.{List, [], _∷_}
+-- Paper 01, "The tape": the fields of a tape by their names, in parts by the record that has them. Each is picked from the
+-- records of the tape; the row that counts is the one of the mean latitude.
+use mathlib.Core.Bool.{Bool, true, cond, _&&_, _||_}
+use mathlib.Core.List.{List, [], _∷_, map}
 use mathlib.Core.Path.{_≡_}
-use Prim.Native.Nat.{ℕ, _+_}
-use lib.Dec.{leb, eqb}
-use lib.ListN.{getD, set, replicate}
+use Prim.Native.Nat.{ℕ, _+_, _<_}
+use lib.Dec.{eqb}
+use lib.ListN.{length, getD}
 use lib.IntN.{ℤ, pos, natAbs}
 use Rattle.whole.specs.declared.Whole.{Whole}
+use Rattle.records.specs.Record.{Rec, rec, bodyOf, rowKind, projectKind, startKind, closeKind}
 use Rattle.tape.specs.declared.State.{State}
 use Rattle.tape.specs.declared.Point.{Point}
 use Rattle.tape.specs.declared.Control.{Control}
@@ -14,40 +16,40 @@ use Rattle.tape.specs.declared.Taken.{Taken}
 use Rattle.tape.specs.declared.Taken.the-variants as taken
 use Rattle.tape.specs.declared.Reading.{Reading}
 use Rattle.tape.specs.declared.Reading.the-variants as reading
-use Rattle.records.specs.Record.{Rec, bodyOf}
-use Rattle.tape.specs.Tape.{readingOf, recordsOf, Told}
+use Rattle.tape.specs.Tape.{isLeg, readingOf, recordsOf, Told}
 
--- the angle right at station k turns to leg k; that at the last station is the closing one. place is the close's first byte
-pub record Fields : Type 0 where
-  pub legs : ℕ
-  pub angles : List ℕ
-  pub distances : List ℕ
+-- ---- the parts
+-- where the project lies: its mean latitude and elevation, and the factor of the row of that latitude
+pub record Site : Type 0 where
   pub latitude : ℕ
   pub elevation : Whole
   pub scale : ℕ
+
+-- the fixed point where the line opens, the azimuth to the mark there, and the place of the first record after it
+pub record Opening : Type 0 where
   pub from : Point
   pub mark : ℕ
+  pub line : ℕ
+
+-- how many legs, the angles turned (of each leg in its turn, then the closing one), and the distances of the legs
+pub record Line : Type 0 where
+  pub legs : ℕ
+  pub angles : List ℕ
+  pub distances : List ℕ
+
+-- the fixed point where the line closes, the azimuth to the mark there, and the place of the close
+pub record Closing : Type 0 where
   pub to : Point
   pub given : ℕ
   pub place : ℕ
 
-unfoldable pub nothing : Fields
-nothing =
-    record {
-      legs = 0;
-      angles = replicate 65 0;
-      distances = replicate 64 0;
-      latitude = 0;
-      elevation = record { v = pos 0 };
-      scale = 0;
-      from = record { north = 0; east = 0 };
-      mark = 0;
-      to = record { north = 0; east = 0 };
-      given = 0;
-      place = 0;
-    }
+pub record Fields : Type 0 where
+  pub site : Site
+  pub opening : Opening
+  pub line : Line
+  pub closing : Closing
 
--- ---- the fields with those of one more record, which is r at the place at
+-- ---- picking
 -- a record's number k, and the same without its sign
 abbrev pub signed : Rec → ℕ → ℤ
 signed r k = getD (r .values) k (pos 0)
@@ -55,75 +57,98 @@ signed r k = getD (r .values) k (pos 0)
 abbrev pub number : Rec → ℕ → ℕ
 number r k = natAbs (signed r k)
 
--- each field is put in by records of one kind; an angle by a leg, and the closing one by the close. A row puts nothing in
-abbrev pub put : Fields → ℕ → Rec → Fields
-put f at r =
-    let project = eqb (r .kind) 1 in
-    let start = eqb (r .kind) 2 in
-    let leg = eqb (r .kind) 3 in
-    let close = eqb (r .kind) 4 in
-    record {
-      legs = cond leg (f .legs + 1) (f .legs);
-      angles = cond (leg || close) (set (f .angles) (f .legs) (number r 0)) (f .angles);
-      distances = cond leg (set (f .distances) (f .legs) (number r 1)) (f .distances);
-      latitude = cond project (number r 0) (f .latitude);
-      elevation = cond project (record { v = signed r 1 }) (f .elevation);
-      scale = f .scale;
-      from = cond start (record { north = number r 0; east = number r 1 }) (f .from);
-      mark = cond start (number r 2) (f .mark);
-      to = cond close (record { north = number r 1; east = number r 2 }) (f .to);
-      given = cond close (number r 3) (f .given);
-      place = cond close at (f .place);
-    }
+-- the records whose kind p picks, in their order
+unfoldable pub pick : (ℕ → Bool) → List Rec → List Rec
+pick p [] = []
+pick p (r ∷ rs) = cond (p (r .kind)) (r ∷ pick p rs) (pick p rs)
 
--- for a 65th leg there is no place
-unfoldable pub putIn : Fields → ℕ → Rec → Fields
-putIn f at r = cond (eqb (r .kind) 3 && leb 64 (f .legs)) f (put f at r)
+abbrev pub none : Rec
+none = rec 0 []
 
--- ---- of all the records, the first of which has the place at
-unfoldable pub gathered : Fields → ℕ → List Rec → Fields
-gathered f at [] = f
-gathered f at (r ∷ rs) = gathered (putIn f at r) (at + 1 + bodyOf (r .kind)) rs
+-- the one record of a kind
+abbrev pub only : ℕ → List Rec → Rec
+only k rs = getD (pick (eqb k) rs) 0 none
+
+-- the place of the first record whose kind p picks, where the first of all has the place at
+unfoldable pub placeOf : (ℕ → Bool) → ℕ → List Rec → ℕ
+placeOf p at [] = at
+placeOf p at (r ∷ rs) = cond (p (r .kind)) at (placeOf p (at + 1 + bodyOf (r .kind)) rs)
+
+-- the kinds of records that turn an angle: the legs, and the close
+abbrev pub turns : ℕ → Bool
+turns k = isLeg k || eqb k closeKind
+
+unfoldable pub angleOf : Rec → ℕ
+angleOf r = number r 0
+
+unfoldable pub distanceOf : Rec → ℕ
+distanceOf r = number r 1
 
 -- the factor of the first row that has the latitude; 0 if there is none
 unfoldable pub isRow : ℕ → Rec → Bool
-isRow latitude r = eqb (r .kind) 5 && eqb (number r 0) latitude
+isRow latitude r = eqb (r .kind) rowKind && eqb (number r 0) latitude
 
 unfoldable pub scaleOf : ℕ → List Rec → ℕ
 scaleOf latitude [] = 0
 scaleOf latitude (r ∷ rs) = cond (isRow latitude r) (number r 1) (scaleOf latitude rs)
 
-abbrev pub withScale : Fields → ℕ → Fields
-withScale f scale =
+-- ---- the fields of some records
+abbrev pub siteOf : List Rec → Site
+siteOf rs =
+    let project = only projectKind rs in
+    let latitude = number project 0 in
     record {
-      legs = f .legs;
-      angles = f .angles;
-      distances = f .distances;
-      latitude = f .latitude;
-      elevation = f .elevation;
-      scale = scale;
-      from = f .from;
-      mark = f .mark;
-      to = f .to;
-      given = f .given;
-      place = f .place;
+      latitude = latitude;
+      elevation = record { v = signed project 1 };
+      scale = scaleOf latitude rs;
     }
 
-unfoldable pub fieldsOf : List ℕ → Fields
-fieldsOf tape = let f = gathered nothing 0 (recordsOf tape) in withScale f (scaleOf (f .latitude) (recordsOf tape))
+abbrev pub openingOf : List Rec → Opening
+openingOf rs =
+    let start = only startKind rs in
+    record {
+      from = record { north = number start 0; east = number start 1 };
+      mark = number start 2;
+      line = placeOf isLeg 0 rs;
+    }
+
+abbrev pub lineOf : List Rec → Line
+lineOf rs =
+    record {
+      legs = length (pick isLeg rs);
+      angles = map angleOf (pick turns rs);
+      distances = map distanceOf (pick isLeg rs);
+    }
+
+abbrev pub closingOf : List Rec → Closing
+closingOf rs =
+    let close = only closeKind rs in
+    record {
+      to = record { north = number close 1; east = number close 2 };
+      given = number close 3;
+      place = placeOf (eqb closeKind) 0 rs;
+    }
+
+unfoldable pub picked : List Rec → Fields
+picked rs =
+    record { site = siteOf rs; opening = openingOf rs; line = lineOf rs; closing = closingOf rs }
+
+abbrev pub fieldsOf : List ℕ → Fields
+fieldsOf tape = picked (recordsOf tape)
 
 -- ---- the answer: the latitude has told the scale, and the angles and distances stay on the tape
 abbrev pub controlOf : Fields → Control
 controlOf f =
     record {
-      legs = f .legs;
-      elevation = f .elevation;
-      scale = f .scale;
-      from = f .from;
-      mark = f .mark;
-      to = f .to;
-      given = f .given;
-      place = f .place;
+      legs = f .line .legs;
+      line = f .opening .line;
+      elevation = f .site .elevation;
+      scale = f .site .scale;
+      from = f .opening .from;
+      mark = f .opening .mark;
+      to = f .closing .to;
+      given = f .closing .given;
+      place = f .closing .place;
     }
 
 abbrev pub takenIf : Reading → Fields → Taken
@@ -138,7 +163,17 @@ abbrev pub toldTaken : Taken → Told
 toldTaken (taken.Reads c) = record { number = 0; place = 0 }
 toldTaken (taken.Refused n p) = record { number = n; place = p }
 
--- a tape that reads
+-- each element is a byte, as a lent slice of bytes tells
+pub record AllBytes (l : List ℕ) : Type 0 where
+  pub each : (i : ℕ) → getD l i 0 < 256
+
+-- a tape of bytes that reads to a last state
+pub record ReadsTo (tape : List ℕ) (last : State) : Type 0 where
+  pub bytes : AllBytes tape
+  pub reads : readingOf tape ≡ reading.Reads last
+
+-- a tape of bytes that reads
 pub record DoesRead (tape : List ℕ) : Type 0 where
+  pub bytes : AllBytes tape
   pub last : State
   pub reads : readingOf tape ≡ reading.Reads last

@@ -1,3 +1,4 @@
 pub mod Fields
+pub mod Legs
 pub mod Passing
 pub mod Tape

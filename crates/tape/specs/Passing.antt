@@ -1,40 +1,65 @@
--- What the reader's private functions promise one another, each of its part of the tape: the reading of the whole is a refusal there, or the reading from
--- behind the part on.
+-- What the reader's private functions promise one another, each of its part of the tape: the reading of the whole is a
+-- refusal there, or the reading from the place after the part on.
 use mathlib.Core.Path.{_≡_}
-use mathlib.Core.Bool.{cond}
+use mathlib.Core.Bool.{cond, false}
+use mathlib.Core.Logic.{_⊎_}
 use mathlib.Core.List.{List}
-use Prim.Native.Nat.{ℕ, _≤_}
+use Prim.Native.Nat.{ℕ, _+_, _≤_}
 use lib.Dec.{eqb}
 use lib.ListN.{length, getD, drop}
+use Rattle.records.specs.Bytes.{two, num}
+use Rattle.records.specs.Record.{rowKind, bodyOf}
 use Rattle.tape.specs.declared.State.{State}
+use Rattle.tape.specs.declared.Cursor.{Cursor}
 use Rattle.tape.specs.declared.Passed.{Passed}
 use Rattle.tape.specs.declared.Reading.{Reading}
 use Rattle.tape.specs.declared.Reading.the-variants.{Refused}
-use Rattle.tape.specs.Tape.{walk, readingOf}
+use Rattle.tape.specs.Tape.{atRows, lineBegun, afterLeg, isLeg, withRow, withLeg, inPhase, walk, readingOf}
 
--- the reading from a place on, in the state there
-abbrev pub onward : List ℕ → State → ℕ → Reading
-onward tape st at = walk st at 0 (drop at tape)
+abbrev pub cursor : ℕ → State → Cursor
+cursor at st = record { at = at; st = st }
 
--- the same counts in another phase
-abbrev pub to : ℕ → State → State
-to p st = record { phase = p; rows = st .rows; next = st .next; legs = st .legs }
+-- the reading from a cursor on
+abbrev pub onward : List ℕ → Cursor → Reading
+onward tape c = walk (c .st) (c .at) 0 (drop (c .at) tape)
 
--- n refuses the record at a place, or is 0, and the reading goes on behind it, in the state there
-pub record Passes (tape : List ℕ) (st : State) (at n : ℕ) (after : State) (behind : ℕ) : Type 0 where
-  pub same : onward tape st at ≡ cond (eqb n 0) (onward tape after behind) (Refused n at)
-  pub within : n ≡ 0 → behind ≤ length tape
+-- the reading is refused at the cursor with n, or n is 0, and it goes on from the cursor
+abbrev pub reached : List ℕ → ℕ → Cursor → Reading
+reached tape n c = cond (eqb n 0) (onward tape c) (Refused n (c .at))
 
--- the same of all records of a kind that follow each other from a place on
-pub record Ran (tape : List ℕ) (st : State) (at kind : ℕ) (r : Passed) : Type 0 where
-  pub same : onward tape st at ≡ cond (eqb (r .number) 0) (onward tape (r .st) (r .at)) (Refused (r .number) (r .at))
-  pub within : r .at ≤ length tape
-  pub phase : r .st .phase ≡ st .phase
-  pub none : r .number ≡ 0 → getD tape (r .at) 0 ≡ kind → ⊥
+-- ---- the cursor after a record
+-- so many bytes on, in a phase
+abbrev pub past : Cursor → ℕ → ℕ → Cursor
+past c bytes phase = cursor (c .at + bytes) (inPhase phase (c .st))
 
--- and of all that stands before the legs
+abbrev pub pastRow : List ℕ → Cursor → Cursor
+pastRow tape c = cursor (c .at + 7) (withRow (c .st) (num two tape (c .at + 1)))
+
+abbrev pub pastLeg : List ℕ → Cursor → Cursor
+pastLeg tape c = cursor (c .at + 1 + bodyOf (getD tape (c .at) 0)) (withLeg (c .st))
+
+-- n refuses the record at the cursor, or is 0, and the reading goes on after it
+pub record Passes (tape : List ℕ) (c : Cursor) (n : ℕ) (after : Cursor) : Type 0 where
+  pub same : onward tape c ≡ cond (eqb n 0) (onward tape after) (Refused n (c .at))
+  pub within : n ≡ 0 → after .at ≤ length tape
+
+-- a state in which a leg may come
+abbrev pub InLine : State → Type 0
+InLine st = (st .phase ≡ lineBegun) ⊎ (st .phase ≡ afterLeg)
+
+-- ---- all rows, from the start on
+pub record Rowed (tape : List ℕ) (r : Passed) : Type 0 where
+  pub same : readingOf tape ≡ reached tape (r .number) (r .cursor)
+  pub phase : r .cursor .st .phase ≡ atRows
+  pub none : r .number ≡ 0 → getD tape (r .cursor .at) 0 ≡ rowKind → ⊥
+
+-- all that stands before the legs
 pub record Opened (tape : List ℕ) (r : Passed) : Type 0 where
-  pub same : readingOf tape ≡ cond (eqb (r .number) 0) (onward tape (r .st) (r .at)) (Refused (r .number) (r .at))
-  pub within : r .number ≡ 0 → r .at ≤ length tape
-  pub phase : r .number ≡ 0 → r .st .phase ≡ 2
-  pub legs : r .number ≡ 0 → r .st .legs ≡ 0
+  pub same : readingOf tape ≡ reached tape (r .number) (r .cursor)
+  pub begun : r .number ≡ 0 → InLine (r .cursor .st)
+
+-- all legs, from a cursor on
+pub record Walked (tape : List ℕ) (c : Cursor) (r : Passed) : Type 0 where
+  pub same : onward tape c ≡ reached tape (r .number) (r .cursor)
+  pub line : InLine (r .cursor .st)
+  pub none : r .number ≡ 0 → isLeg (getD tape (r .cursor .at) 0) ≡ false

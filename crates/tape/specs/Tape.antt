@@ -9,6 +9,7 @@ use lib.IntN.{ℤ, pos, natAbs}
 use Rattle.tape.specs.declared.State.{State}
 use Rattle.tape.specs.declared.Reading.{Reading}
 use Rattle.tape.specs.declared.Reading.the-variants.{Refused, Reads}
+use Rattle.records.specs.Record.{rowKind, projectKind, startKind, legKind, closeKind}
 use Rattle.records.specs.Record.{Rec, bodyOf, numbersOf, goodOf, bytesOf}
 
 -- one record: what has been read with it, or the number of its refusal
@@ -17,30 +18,69 @@ pub data Step : Type 0 where
   Stop : ℕ → Step
 
 -- ---- "Order: 0 to 600 rows ..; one project; one start; 1 to 64 legs; one close; end."
--- phase 0 waits for rows or the project, 1 for the start, 2 for legs or the close, 3 for the end
+abbrev pub mostRows : ℕ
+mostRows = 600
+
+abbrev pub mostLegs : ℕ
+mostLegs = 64
+
+-- what has come last: nothing or rows, the project, the start, a leg, or the close
+abbrev pub atRows : ℕ
+atRows = 0
+
+abbrev pub afterProject : ℕ
+afterProject = 1
+
+abbrev pub lineBegun : ℕ
+lineBegun = 3
+
+abbrev pub afterLeg : ℕ
+afterLeg = 4
+
+abbrev pub closed : ℕ
+closed = 5
+
+-- the kinds that are legs
+abbrev pub isLeg : ℕ → Bool
+isLeg k = eqb k legKind
+
 unfoldable pub mayCome : State → ℕ → Bool
 mayCome st k =
-    cond (eqb (st .phase) 0) (eqb k 5 || eqb k 1)
-    (cond (eqb (st .phase) 1) (eqb k 2)
-    (cond (eqb (st .phase) 2) (eqb k 3 || (eqb k 4 && ltb 0 (st .legs)))
-    false))
+    cond (eqb (st .phase) atRows) (eqb k rowKind || eqb k projectKind)
+    (cond (eqb (st .phase) afterProject) (eqb k startKind)
+    (cond (eqb (st .phase) lineBegun) (isLeg k)
+    (cond (eqb (st .phase) afterLeg) (isLeg k || eqb k closeKind)
+    false)))
 
 -- the 601st row is refused with 5, the 65th leg with 6; 0 where there is room
 unfoldable pub roomOf : State → ℕ → ℕ
-roomOf st k = cond (eqb k 5) (cond (ltb (st .rows) 600) 0 5) (cond (eqb k 3) (cond (ltb (st .legs) 64) 0 6) 0)
+roomOf st k =
+    cond (eqb k rowKind) (cond (ltb (st .rows) mostRows) 0 5)
+    (cond (isLeg k) (cond (ltb (st .legs) mostLegs) 0 6)
+    0)
+
+-- ---- what a record that is taken changes
+abbrev pub inPhase : ℕ → State → State
+inPhase p st = record { phase = p; rows = st .rows; next = st .next; legs = st .legs }
+
+abbrev pub withRow : State → ℕ → State
+withRow st minute =
+    record { phase = atRows; rows = st .rows + 1; next = minute + 1; legs = st .legs }
+
+abbrev pub withLeg : State → State
+withLeg st =
+    record { phase = afterLeg; rows = st .rows; next = st .next; legs = st .legs + 1 }
 
 -- "each one minute above the row before": else 5. The first row has none before it
 unfoldable pub rowNext : State → ℕ → Step
 rowNext st minute =
-    cond (eqb (st .rows) 0 || eqb minute (st .next))
-    (Next (record { phase = 0; rows = st .rows + 1; next = minute + 1; legs = st .legs }))
-    (Stop 5)
+    cond (eqb (st .rows) 0 || eqb minute (st .next)) (Next (withRow st minute)) (Stop 5)
 
 -- "no row for the mean latitude": 7. The rows have the minutes from next - rows to next - 1
 unfoldable pub projectNext : State → ℕ → Step
 projectNext st latitude =
     cond (ltb latitude (st .next) && leb (st .next - latitude) (st .rows))
-    (Next (record { phase = 1; rows = st .rows; next = st .next; legs = st .legs }))
+    (Next (inPhase afterProject st))
     (Stop 7)
 
 -- the first number of a record, a minute for rows and the project
@@ -50,11 +90,11 @@ firstOf vs = natAbs (getD vs 0 (pos 0))
 -- what follows a record that is whole and in range
 unfoldable pub afterOf : State → ℕ → List ℤ → Step
 afterOf st k vs =
-    cond (eqb k 5) (rowNext st (firstOf vs))
-    (cond (eqb k 1) (projectNext st (firstOf vs))
-    (cond (eqb k 2) (Next (record { phase = 2; rows = st .rows; next = st .next; legs = st .legs }))
-    (cond (eqb k 3) (Next (record { phase = 2; rows = st .rows; next = st .next; legs = st .legs + 1 }))
-    (Next (record { phase = 3; rows = st .rows; next = st .next; legs = st .legs })))))
+    cond (eqb k rowKind) (rowNext st (firstOf vs))
+    (cond (eqb k projectKind) (projectNext st (firstOf vs))
+    (cond (eqb k startKind) (Next (inPhase lineBegun st))
+    (cond (isLeg k) (Next (withLeg st))
+    (Next (inPhase closed st)))))
 
 -- ---- "in a record: its kind (3), the 601st row or 65th leg (5, 6), its body whole (2), its fields in order (4), then row succession (5) or the row for
 -- the latitude (7)": the order of the tests is the shape of these two
@@ -78,7 +118,7 @@ onStep (Next st) at f = f st
 onStep (Stop n) at f = Refused n at
 
 abbrev pub atEnd : State → ℕ → Reading
-atEnd st at = cond (eqb (st .phase) 3) (Reads st) (Refused 2 at)
+atEnd st at = cond (eqb (st .phase) closed) (Reads st) (Refused 2 at)
 
 unfoldable pub walk : State → ℕ → ℕ → List ℕ → Reading
 walk st at n [] = atEnd st at
@@ -86,7 +126,7 @@ walk st at (suc n) (x ∷ l) = walk st at n l
 walk st at zero (x ∷ l) = onStep (stepOf st (x ∷ l)) at (λ st′. walk st′ (at + 1 + bodyOf x) (bodyOf x) l)
 
 abbrev pub start : State
-start = record { phase = 0; rows = 0; next = 0; legs = 0 }
+start = record { phase = atRows; rows = 0; next = 0; legs = 0 }
 
 unfoldable pub readingOf : List ℕ → Reading
 readingOf tape = walk start 0 0 tape

@@ -1,14 +1,16 @@
 // The tape: the reading of a whole tape, and its fields.
+use records::LEG;
+use records::LEG_BODY;
+use records::LEG_BYTES;
 use whole::Whole;
 ghost use mathlib.Core.Path.{_≡_};
 ghost use Prim.Native.Nat.{_-_};
 ghost use lib.ListN.{length};
-ghost use Rattle.records.specs.Bytes.{fourAt};
 ghost use Rattle.tape.specs.Tape.{readingOf, told};
-ghost use Rattle.tape.specs.Fields.{takenOf, toldTaken};
+ghost use Rattle.tape.specs.Fields.{takenOf, toldTaken, AllBytes};
+ghost use Rattle.tape.specs.Legs.{sightAt};
 
-// What has been read so far: what may come (0 rows or the project, 1 the start, 2 legs or the close, 3 nothing), how many rows and legs, and the
-// minute that the next row must have.
+// What has been read so far: what has come last (`phase`), how many rows and legs, and the minute that the next row must have.
 pub struct State {
     pub phase: u32,
     pub rows: u32,
@@ -16,11 +18,16 @@ pub struct State {
     pub legs: u32,
 }
 
-// What was read of some records: the number of a refusal, or 0; the place reached, and the state there.
-struct Passed {
-    number: u32,
+// Where the reading stands: a place, and what has been read before it.
+struct Cursor {
     at: usize,
     st: State,
+}
+
+// What was read of some records: the number of a refusal, or 0, and where the reading stands.
+struct Passed {
+    number: u32,
+    cursor: Cursor,
 }
 
 // What a tape's reading answers.
@@ -35,9 +42,11 @@ pub struct Point {
     pub east: u32,
 }
 
-// The fields of a tape, but for the angles and distances: these stay on the tape, nine bytes a leg before the close, which stands at the place.
+// The fields of a tape, but for the angles and distances: these stay on the tape, from the place `line` on, where the first leg
+// stands; the close stands at `place`.
 pub struct Control {
     pub legs: usize,
+    pub line: usize,
     pub elevation: Whole,
     pub scale: u32,
     pub from: Point,
@@ -45,6 +54,14 @@ pub struct Control {
     pub to: Point,
     pub given: u32,
     pub place: usize,
+}
+
+// What was sighted at a station, as it stands at a place: the angle and the distance of the leg there, and the place of the record after it. A close has an
+// angle, and no leg after it: its next place is its own.
+pub struct Sight {
+    pub angle: u32,
+    pub distance: u32,
+    pub next: usize,
 }
 
 // A tape's refusal, or the fields of one that reads.
@@ -65,10 +82,11 @@ pub fn read(tape: &[u8]) -> Reading
     order::read_all(tape)
 }
 
-// The reading of any tape, and the fields of one that reads. Whoever walks its legs takes their angles and distances by `four`.
+// The reading of any tape, and the fields of one that reads. Callers walk its legs by `sight_at`, from `line` on.
 pub fn take(tape: &[u8]) -> Taken
     ensures is { λ r. ⌜ r ≡ takenOf (now (tape .entry)) ⌝ }
     ensures told { λ r. ⌜ toldTaken r ≡ told (readingOf (now (tape .entry))) ⌝ }
+    ensures bytes { λ r. ⌜ AllBytes (now (tape .entry)) ⌝ }
 {
     match order::read_all(tape) {
         Reading::Reads(last) => Taken::Reads(taking::control(tape, last)),
@@ -76,22 +94,40 @@ pub fn take(tape: &[u8]) -> Taken
     }
 }
 
-// How many places of a tape have so many bytes behind them: a place is then tried by one comparison, with no sum that could overflow.
-fn places(tape: &[u8], behind: usize) -> usize
-    ensures { λ r. ⌜ r ≡ length (now (tape .entry)) - behind ⌝ }
+// How many places of a tape have so many bytes after them: a place is then tested by one comparison, with no sum that could
+// overflow.
+fn places(tape: &[u8], after: usize) -> usize
+    ensures { λ r. ⌜ r ≡ length (now (tape .entry)) - after ⌝ }
 {
-    if tape.len() < behind {
+    if tape.len() < after {
         return 0;
     }
-    tape.len() - behind
+    tape.len() - after
 }
 
-// The number at a place; 0 where there is none. Any place may be given.
-pub fn four(tape: &[u8], at: usize) -> u32
-    ensures { λ r. ⌜ r ≡ fourAt (now (tape .entry)) at ⌝ }
+// What stands at a place, of any tape and any place.
+pub fn sight_at(tape: &[u8], at: usize) -> Sight
+    ensures { λ r. ⌜ r ≡ sightAt (now (tape .entry)) at ⌝ }
 {
-    if at < places(tape, 3) {
-        return digits::four_at(tape, at);
+    if places(tape, LEG_BODY) <= at {
+        return Sight {
+            angle: 0,
+            distance: 0,
+            next: at,
+        };
     }
-    0
+    let angle = digits::four_at(tape, at + 1);
+    let distance = digits::four_at(tape, at + 5);
+    if tape[at] == LEG {
+        return Sight {
+            angle,
+            distance,
+            next: at + LEG_BYTES,
+        };
+    }
+    Sight {
+        angle,
+        distance,
+        next: at,
+    }
 }

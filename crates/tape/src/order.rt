@@ -1,21 +1,56 @@
-// The reading of a tape in the paper's order: rows, the project, the start, legs, the close, the end. Each record's own tests stand in the paper's order too.
+// The reading of a tape in the paper's order: rows, the project, the start, legs, the close, the end. Each record's own tests stand
+// in the paper's order too.
 //
-// Rows and legs may be many: where the last of them may stand, by the limit and by the tape's length, is known before the first is read, so that each is told
-// by the fewest tests.
+// Rows may be many: where the last of them may stand, by the limit and by the tape's length, is known before the first is read, so
+// that each is told by the fewest tests. Legs are read record by record.
+use crate::Cursor;
 use crate::Passed;
 use crate::Reading;
 use crate::State;
 use crate::digits;
 use crate::places;
+use records::CLOSE;
+use records::CLOSE_BODY;
+use records::CLOSE_BYTES;
+use records::LEG;
+use records::LEG_BODY;
+use records::LEG_BYTES;
+use records::PROJECT;
+use records::PROJECT_BODY;
+use records::PROJECT_BYTES;
+use records::ROW;
+use records::ROW_BODY;
+use records::ROW_BYTES;
+use records::START;
+use records::START_BODY;
+use records::START_BYTES;
 use records::ranges;
 ghost use mathlib.Core.Path.{_≡_};
-ghost use mathlib.Core.Bool.{cond, false};
+ghost use mathlib.Core.Bool.{cond, true, false};
 ghost use Prim.Native.Nat.{_+_, _<_, _≤_};
 ghost use lib.Dec.{eqb, ltb};
 ghost use lib.ListN.{length, getD};
-ghost use Rattle.records.specs.Bytes.{two, num};
-ghost use Rattle.tape.specs.Tape.{start as Tape·start, readingOf};
-ghost use Rattle.tape.specs.Passing.{to, onward, Passes, Ran, Opened};
+ghost use Rattle.tape.specs.Tape.{isLeg, readingOf};
+ghost use Rattle.tape.specs.Passing.{onward, past, pastRow, pastLeg, Passes, InLine, Rowed, Opened, Walked};
+
+// ---- what has come last; the number 2 is kept for a record between the project and the start
+const AT_ROWS: u32 = 0;
+
+const AFTER_PROJECT: u32 = 1;
+
+const LINE_BEGUN: u32 = 3;
+
+const AFTER_LEG: u32 = 4;
+
+const CLOSED: u32 = 5;
+
+// ---- "0 to 600 rows", "1 to 64 legs"
+const MOST_ROWS: u32 = 600;
+
+const MOST_LEGS: u32 = 64;
+
+// The bytes of all the rows that a tape can have.
+const MOST_ROW_BYTES: usize = MOST_ROWS as usize * ROW_BYTES;
 
 // ---- places and kinds
 // The lesser of two places.
@@ -68,24 +103,81 @@ fn other(tape: &[u8], at: usize, kind: u8) -> u32
     3
 }
 
-fn in_phase(phase: u32, st: State) -> State
-    ensures { λ r. ⌜ r ≡ to phase st ⌝ }
+// Whether a leg stands at a place.
+fn leg_stands(tape: &[u8], at: usize) -> bool
+    ensures { λ r. ⌜ r ≡ isLeg (getD (now (tape .entry)) at 0) ⌝ }
 {
-    State {
-        phase,
-        rows: st.rows,
-        next: st.next,
-        legs: st.legs,
+    if tape.len() <= at {
+        return false;
+    }
+    tape[at] == LEG
+}
+
+// ---- the cursor after a record
+// So many bytes on, in another phase.
+fn past_record(c: Cursor, bytes: usize, phase: u32) -> Cursor
+    requires { ⌜ c .at + bytes < 18446744073709551616 ⌝ }
+    ensures { λ r. ⌜ r ≡ past c bytes phase ⌝ }
+{
+    let st = c.st;
+    Cursor {
+        at: c.at + bytes,
+        st: State {
+            phase,
+            rows: st.rows,
+            next: st.next,
+            legs: st.legs,
+        },
     }
 }
 
-// ---- what refuses a record: its number, or 0. The state is handed to each for its promise; the start and a leg do not look at it.
-// A row that there is room for.
-fn row(tape: &[u8], at: usize, st: State) -> u32
-    requires { ⌜ (getD (now tape) at 0 ≡ 5) × (at + 7 ≤ length (now tape)) ⌝ }
-    requires { ⌜ (st .phase ≡ 0) × (st .rows < 600) ⌝ }
-    ensures { λ r. ⌜ Passes (now (tape .entry)) st at r (record { phase = 0; rows = st .rows + 1; next = num two (now (tape .entry)) (at + 1) + 1; legs = st .legs }) (at + 7) ⌝ }
+// Past the row that stands at the cursor, which is whole.
+fn past_row(tape: &[u8], c: Cursor) -> Cursor
+    requires { ⌜ (c .at + 7 ≤ length (now tape)) × (c .st .rows < 600) ⌝ }
+    ensures { λ r. ⌜ r ≡ pastRow (now (tape .entry)) c ⌝ }
 {
+    let at = c.at;
+    let st = c.st;
+    let minute = digits::two_at(tape, at + 1);
+    Cursor {
+        at: at + ROW_BYTES,
+        st: State {
+            phase: AT_ROWS,
+            rows: st.rows + 1,
+            next: minute + 1,
+            legs: st.legs,
+        },
+    }
+}
+
+// Past the leg that stands at the cursor, which is whole.
+fn past_leg(tape: &[u8], c: Cursor) -> Cursor
+    requires { ⌜ isLeg (getD (now tape) (c .at) 0) ≡ true ⌝ }
+    requires { ⌜ pastLeg (now tape) c .at ≤ length (now tape) ⌝ }
+    requires { ⌜ c .st .legs < 64 ⌝ }
+    ensures { λ r. ⌜ r ≡ pastLeg (now (tape .entry)) c ⌝ }
+{
+    let st = c.st;
+    Cursor {
+        at: c.at + LEG_BYTES,
+        st: State {
+            phase: AFTER_LEG,
+            rows: st.rows,
+            next: st.next,
+            legs: st.legs + 1,
+        },
+    }
+}
+
+// ---- what refuses a record: its number, or 0. The cursor's state is handed to each for its promise; the start does not look at it.
+// A row that there is room for.
+fn row(tape: &[u8], c: Cursor) -> u32
+    requires { ⌜ (getD (now tape) (c .at) 0 ≡ 5) × (c .at + 7 ≤ length (now tape)) ⌝ }
+    requires { ⌜ (c .st .phase ≡ 0) × (c .st .rows < 600) ⌝ }
+    ensures { λ r. ⌜ Passes (now (tape .entry)) c r (pastRow (now (tape .entry)) c) ⌝ }
+{
+    let at = c.at;
+    let st = c.st;
     let minute = digits::two_at(tape, at + 1);
     if ranges::row_good(minute, digits::four_at(tape, at + 3)) {
         if st.rows == 0 {
@@ -100,16 +192,18 @@ fn row(tape: &[u8], at: usize, st: State) -> u32
 }
 
 // The project, where no row stands.
-fn project(tape: &[u8], at: usize, st: State) -> u32
-    requires { ⌜ (getD (now tape) at 0 ≡ 5 → ⊥) ⌝ }
-    requires { ⌜ st .phase ≡ 0 ⌝ }
-    ensures { λ r. ⌜ Passes (now (tape .entry)) st at r (to 1 st) (at + 5) ⌝ }
+fn project(tape: &[u8], c: Cursor) -> u32
+    requires { ⌜ (getD (now tape) (c .at) 0 ≡ 5 → ⊥) ⌝ }
+    requires { ⌜ c .st .phase ≡ 0 ⌝ }
+    ensures { λ r. ⌜ Passes (now (tape .entry)) c r (past c 5 1) ⌝ }
 {
-    let number = other(tape, at, 1);
+    let at = c.at;
+    let st = c.st;
+    let number = other(tape, at, PROJECT);
     if number != 0 {
         return number;
     }
-    if tape.len() - at <= 4 {
+    if tape.len() - at <= PROJECT_BODY {
         return 2;
     }
     let latitude = digits::two_at(tape, at + 1);
@@ -125,15 +219,16 @@ fn project(tape: &[u8], at: usize, st: State) -> u32
     4
 }
 
-fn start(tape: &[u8], at: usize, st: State) -> u32
-    requires { ⌜ st .phase ≡ 1 ⌝ }
-    ensures { λ r. ⌜ Passes (now (tape .entry)) st at r (to 2 st) (at + 13) ⌝ }
+fn start(tape: &[u8], c: Cursor) -> u32
+    requires { ⌜ c .st .phase ≡ 1 ⌝ }
+    ensures { λ r. ⌜ Passes (now (tape .entry)) c r (past c 13 3) ⌝ }
 {
-    let number = other(tape, at, 2);
+    let at = c.at;
+    let number = other(tape, at, START);
     if number != 0 {
         return number;
     }
-    if tape.len() - at <= 12 {
+    if tape.len() - at <= START_BODY {
         return 2;
     }
     if ranges::start_good(
@@ -146,12 +241,21 @@ fn start(tape: &[u8], at: usize, st: State) -> u32
     4
 }
 
-// A leg that there is room for.
-fn leg(tape: &[u8], at: usize, st: State) -> u32
-    requires { ⌜ (getD (now tape) at 0 ≡ 3) × (at + 9 ≤ length (now tape)) ⌝ }
-    requires { ⌜ (st .phase ≡ 2) × (st .legs < 64) ⌝ }
-    ensures { λ r. ⌜ Passes (now (tape .entry)) st at r (record { phase = 2; rows = st .rows; next = st .next; legs = st .legs + 1 }) (at + 9) ⌝ }
+// The leg that stands at the cursor.
+fn leg(tape: &[u8], c: Cursor) -> u32
+    requires { ⌜ isLeg (getD (now tape) (c .at) 0) ≡ true ⌝ }
+    requires { ⌜ InLine (c .st) ⌝ }
+    ensures passes { λ r. ⌜ Passes (now (tape .entry)) c r (pastLeg (now (tape .entry)) c) ⌝ }
+    ensures few { λ r. ⌜ (r ≡ 0 → c .st .legs < 64) ⌝ }
 {
+    let at = c.at;
+    let st = c.st;
+    if MOST_LEGS <= st.legs {
+        return 6;
+    }
+    if tape.len() - at <= LEG_BODY {
+        return 2;
+    }
     if ranges::leg_good(digits::four_at(tape, at + 1), digits::four_at(tape, at + 5)) {
         return 0;
     }
@@ -159,19 +263,21 @@ fn leg(tape: &[u8], at: usize, st: State) -> u32
 }
 
 // The close, where no leg stands. Before the first leg it may not come.
-fn close(tape: &[u8], at: usize, st: State) -> u32
-    requires { ⌜ (getD (now tape) at 0 ≡ 3 → ⊥) ⌝ }
-    requires { ⌜ st .phase ≡ 2 ⌝ }
-    ensures { λ r. ⌜ Passes (now (tape .entry)) st at r (to 3 st) (at + 17) ⌝ }
+fn close(tape: &[u8], c: Cursor) -> u32
+    requires { ⌜ isLeg (getD (now tape) (c .at) 0) ≡ false ⌝ }
+    requires { ⌜ InLine (c .st) ⌝ }
+    ensures { λ r. ⌜ Passes (now (tape .entry)) c r (past c 17 5) ⌝ }
 {
-    let number = other(tape, at, 4);
+    let at = c.at;
+    let st = c.st;
+    let number = other(tape, at, CLOSE);
     if number != 0 {
         return number;
     }
-    if st.legs == 0 {
+    if st.phase == LINE_BEGUN {
         return 3;
     }
-    if tape.len() - at <= 16 {
+    if tape.len() - at <= CLOSE_BODY {
         return 2;
     }
     if ranges::close_good(
@@ -187,28 +293,26 @@ fn close(tape: &[u8], at: usize, st: State) -> u32
 
 // ---- the parts of the tape
 fn rows(tape: &[u8]) -> Passed
-    ensures ran { λ r. ⌜ Ran (now (tape .entry)) Tape·start 0 5 r ⌝ }
-    ensures legs { λ r. ⌜ r .st .legs ≡ 0 ⌝ }
+    ensures { λ r. ⌜ Rowed (now (tape .entry)) r ⌝ }
 {
-    let end = least(places(tape, 6), 4200);
-    let mut at: usize = 0;
-    let mut st = State {
-        phase: 0,
+    let end = least(places(tape, ROW_BODY), MOST_ROW_BYTES);
+    let st = State {
+        phase: AT_ROWS,
         rows: 0,
         next: 0,
         legs: 0,
     };
-    while more(tape, at, 5, end) {
-        let number = row(tape, at, st);
+    let mut c = Cursor { at: 0, st };
+    while more(tape, c.at, ROW, end) {
+        let number = row(tape, c);
         if number != 0 {
-            return Passed { number, at, st };
+            return Passed { number, cursor: c };
         }
-        st.rows = st.rows + 1;
-        st.next = digits::two_at(tape, at + 1) + 1;
-        at = at + 7;
+        c = past_row(tape, c);
     }
-    let number = beyond(tape, at, 5, st.rows, 600, 5);
-    Passed { number, at, st }
+    let last = c.st;
+    let number = beyond(tape, c.at, ROW, last.rows, MOST_ROWS, 5);
+    Passed { number, cursor: c }
 }
 
 // Rows, the project and the start.
@@ -216,72 +320,69 @@ fn opening(tape: &[u8]) -> Passed
     ensures { λ r. ⌜ Opened (now (tape .entry)) r ⌝ }
 {
     let read = rows(tape);
-    let st = read.st;
     if read.number != 0 {
         return read;
     }
-    let number = project(tape, read.at, st);
+    let c = read.cursor;
+    let number = project(tape, c);
     if number != 0 {
-        return Passed {
-            number,
-            at: read.at,
-            st,
-        };
+        return Passed { number, cursor: c };
     }
-    let at = read.at + 5;
-    let begun = in_phase(1, st);
-    let number = start(tape, at, begun);
+    let begun = past_record(c, PROJECT_BYTES, AFTER_PROJECT);
+    let number = start(tape, begun);
     if number != 0 {
         return Passed {
             number,
-            at,
-            st: begun,
+            cursor: begun,
         };
     }
     Passed {
         number,
-        at: at + 13,
-        st: in_phase(2, begun),
+        cursor: past_record(begun, START_BYTES, LINE_BEGUN),
     }
 }
 
-fn legs(tape: &[u8], from: usize, begun: State) -> Passed
-    requires { ⌜ from ≤ length (now tape) ⌝ }
-    requires { ⌜ (begun .phase ≡ 2) × (begun .legs ≡ 0) ⌝ }
-    ensures { λ r. ⌜ Ran (now (tape .entry)) begun from 3 r ⌝ }
+// The legs, one after the other.
+fn line(tape: &[u8], begun: Cursor) -> Passed
+    requires { ⌜ InLine (begun .st) ⌝ }
+    ensures { λ r. ⌜ Walked (now (tape .entry)) begun r ⌝ }
 {
-    let end = least(places(tape, 8), from + 576);
-    let mut at = from;
-    let mut st = begun;
-    while more(tape, at, 3, end) {
-        let number = leg(tape, at, st);
+    let mut c = begun;
+    while leg_stands(tape, c.at) {
+        let number = leg(tape, c);
         if number != 0 {
-            return Passed { number, at, st };
+            return Passed { number, cursor: c };
         }
-        st.legs = st.legs + 1;
-        at = at + 9;
+        c = past_leg(tape, c);
     }
-    let number = beyond(tape, at, 3, st.legs, 64, 6);
-    Passed { number, at, st }
+    Passed {
+        number: 0,
+        cursor: c,
+    }
 }
 
 // The close and the end.
-fn finish(tape: &[u8], at: usize, st: State) -> Reading
-    requires { ⌜ (getD (now tape) at 0 ≡ 3 → ⊥) ⌝ }
-    requires { ⌜ st .phase ≡ 2 ⌝ }
-    ensures { λ r. ⌜ r ≡ onward (now (tape .entry)) st at ⌝ }
+fn finish(tape: &[u8], c: Cursor) -> Reading
+    requires { ⌜ isLeg (getD (now tape) (c .at) 0) ≡ false ⌝ }
+    requires { ⌜ InLine (c .st) ⌝ }
+    ensures { λ r. ⌜ r ≡ onward (now (tape .entry)) c ⌝ }
 {
-    let number = close(tape, at, st);
+    let number = close(tape, c);
     if number != 0 {
-        return Reading::Refused { number, place: at };
-    }
-    if at + 17 < tape.len() {
         return Reading::Refused {
-            number: 3,
-            place: at + 17,
+            number,
+            place: c.at,
         };
     }
-    Reading::Reads(in_phase(3, st))
+    let end = past_record(c, CLOSE_BYTES, CLOSED);
+    if end.at < tape.len() {
+        return Reading::Refused {
+            number: 3,
+            place: end.at,
+        };
+    }
+    let last = end.st;
+    Reading::Reads(last)
 }
 
 // The whole tape: one pass, and nothing is copied.
@@ -289,20 +390,20 @@ pub fn read_all(tape: &[u8]) -> Reading
     ensures { λ r. ⌜ r ≡ readingOf (now (tape .entry)) ⌝ }
 {
     let begun = opening(tape);
-    let st = begun.st;
+    let first = begun.cursor;
     if begun.number != 0 {
         return Reading::Refused {
             number: begun.number,
-            place: begun.at,
+            place: first.at,
         };
     }
-    let ran = legs(tape, begun.at, st);
-    let last = ran.st;
+    let ran = line(tape, first);
+    let last = ran.cursor;
     if ran.number != 0 {
         return Reading::Refused {
             number: ran.number,
-            place: ran.at,
+            place: last.at,
         };
     }
-    finish(tape, ran.at, last)
+    finish(tape, last)
 }

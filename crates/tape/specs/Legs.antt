@@ -1,0 +1,70 @@
+-- The legs of a tape, found by walking: what the bytes at a place say of a leg, and where the next one stands.
+use mathlib.Core.Path.{_≡_}
+use mathlib.Core.Bool.{true, cond}
+use mathlib.Core.List.{List, [], _∷_}
+use Prim.Native.Nat.{ℕ, zero, suc, _+_}
+use lib.Dec.{leb}
+use lib.IntN.{pos}
+use lib.ListN.{length, getD, drop}
+use Rattle.records.specs.Bytes.{two, four, size, num, unsigned}
+use Rattle.records.specs.Record.{Field, Rec, rowKind, projectKind, startKind, legKind, closeKind, bodyOf, goodOf}
+use Rattle.tape.specs.Tape.{isLeg, recordsOf, tapeOf}
+use Rattle.tape.specs.Fields.{pick, turns}
+use Rattle.tape.specs.declared.Sight.{Sight}
+
+-- ---- at any place of any tape: the angle and the distance of the leg that stands there, and the place of the record after it.
+-- A close has an angle, and the walk stays there; where no leg can stand whole all is zero but the place
+abbrev pub noSight : ℕ → Sight
+noSight at = record { angle = 0; distance = 0; next = at }
+
+abbrev pub sightThere : List ℕ → ℕ → Sight
+sightThere tape at =
+    let kind = getD tape at 0 in
+    record {
+      angle = num four tape (at + 1);
+      distance = num four tape (at + 5);
+      next = cond (isLeg kind) (at + 1 + bodyOf kind) at;
+    }
+
+unfoldable pub sightAt : List ℕ → ℕ → Sight
+sightAt tape at =
+    cond (leb (at + 1 + bodyOf legKind) (length tape)) (sightThere tape at) (noSight at)
+
+-- ---- from a place on the tape is exactly these records, each in range
+abbrev pub Good : List Rec → Type 0
+Good [] = Unit {0}
+Good (r ∷ rs) = (goodOf (r .kind) (r .values) ≡ true) × Good rs
+
+pub record Rest (tape : List ℕ) (at : ℕ) (rs : List Rec) : Type 0 where
+  pub is : drop at tape ≡ tapeOf rs
+  pub good : Good rs
+
+-- ---- "Order: 0 to 600 rows ..; one project; one start; 1 to 64 legs; one close; end."
+-- legs, and then the close
+pub data Legs : List Rec → Type 0 where
+  last : (r : Rec) → r .kind ≡ closeKind → Legs (r ∷ [])
+  leg : (r : Rec) {rs : List Rec} → isLeg (r .kind) ≡ true → Legs rs → Legs (r ∷ rs)
+
+-- rows, then the project, the start, and a leg at least
+pub data Order : List Rec → Type 0 where
+  row : (r : Rec) {rs : List Rec} → r .kind ≡ rowKind → Order rs → Order (r ∷ rs)
+  opens : (p s l : Rec) {rs : List Rec} → p .kind ≡ projectKind → s .kind ≡ startKind → isLeg (l .kind) ≡ true
+      → Legs rs → Order (p ∷ s ∷ l ∷ rs)
+
+-- leg k, counted from 0, stands at the place, or the close after the last leg does: from there on the records are
+-- legs and the close, and those that turn an angle are the tape's less the first k
+pub record LegAt (tape : List ℕ) (k at : ℕ) : Type 0 where
+  pub rs : List Rec
+  pub rest : Rest tape at rs
+  pub legs : Legs rs
+  pub less : pick turns rs ≡ drop k (pick turns (recordsOf tape))
+
+-- ---- where a number of a record stands: so many bytes into its body; and its field
+abbrev pub offset : List Field → ℕ → ℕ
+offset [] i = 0
+offset (f ∷ fs) zero = 0
+offset (f ∷ fs) (suc i) = size (f .width) + offset fs i
+
+abbrev pub fieldAt : List Field → ℕ → Field
+fieldAt fs i =
+    getD fs i (record { width = two; coding = unsigned; low = pos 0; high = pos 0 })
