@@ -56,8 +56,8 @@ module _ (tape : List ℕ) (words l : List ℤ) (x : Answer) (e : told x ≡ tra
   pub corner : (axis : Axis) (k : ℕ) → k ≤ b .legs → StandsWithin (bound (b .legs) k) (getD l (at axis k) (pos 0)) (unroundedAt axis b k)
   corner axis k h = rw (f, station entry tape words number axis k h) (station-near b sound axis k h)
 
-  pub first-corner : (axis : Axis) → getD l (at axis 0) (pos 0) ≡ pos (along axis (fieldsOf tape .from))
+  pub first-corner : (axis : Axis) → getD l (at axis 0) (pos 0) ≡ pos (along axis (fieldsOf tape .opening .from))
   first-corner axis = rw f (first-station entry tape words number axis)
 
-  pub last-corner : (axis : Axis) → getD l (at axis (fieldsOf tape .legs)) (pos 0) ≡ pos (along axis (fieldsOf tape .to))
+  pub last-corner : (axis : Axis) → getD l (at axis (fieldsOf tape .line .legs)) (pos 0) ≡ pos (along axis (fieldsOf tape .closing .to))
   last-corner axis = rw f (last-station entry tape words number axis)

@@ -39,7 +39,7 @@ balancedTape tape = balancedTraverse (fieldsOf tape)
 pub record Accepted (e : ℕ → ℤ) (tape : List ℕ) (room : ℕ) : Type 0 where
   pub wide : 130 ≤ room
   pub reads : DoesRead tape
-  pub angles : closesAngles (misclosureOf (fieldsOf tape)) (fieldsOf tape .legs) ≡ true
+  pub angles : closesAngles (misclosureOf (fieldsOf tape)) (fieldsOf tape .line .legs) ≡ true
   pub closes : closesOn e (balancedTape tape) ≡ true
 
 -- what each number that it is told is at most
@@ -65,7 +65,7 @@ module _ (e : ℕ → ℤ) (tape : List ℕ) (room : ℕ) where
       go : (r : Reading) → readingOf tape ≡ r → 130 ≤ room → ShownAfter (firstIf r (fieldsOf tape))
       go (reading.Refused n p) h wide = λ z. absurd (omega (arith, reading-number tape n p h .0))
       go (reading.Reads st) h wide =
-          by-test ShownAfter (closesAngles (misclosureOf (fieldsOf tape)) (fieldsOf tape .legs))
+          by-test ShownAfter (closesAngles (misclosureOf (fieldsOf tape)) (fieldsOf tape .line .legs))
           (λ a.
           by-test Shown (closesOn e (balancedTape tape)) (λ c z. record { wide = wide; reads = record { last = st; reads = h }; angles = a; closes = c })
           (λ c z. absurd (omega arith)))
@@ -85,7 +85,7 @@ module _ (e : ℕ → ℤ) (tape : List ℕ) (room : ℕ) where
       go : (r : Reading) → readingOf tape ≡ r → NineAfter (firstIf r (fieldsOf tape))
       go (reading.Refused n p) h = omega (arith, reading-number tape n p h .1)
       go (reading.Reads st) h =
-          by-test NineAfter (closesAngles (misclosureOf (fieldsOf tape)) (fieldsOf tape .legs))
+          by-test NineAfter (closesAngles (misclosureOf (fieldsOf tape)) (fieldsOf tape .line .legs))
           (λ a. by-test Nine (closesOn e (balancedTape tape)) (λ c. omega arith) (λ c. omega arith)) (λ a. omega arith)
 
   -- and the answer is that of the second step
@@ -111,7 +111,7 @@ module _ (e : ℕ → ℤ) (tape : List ℕ) (room : ℕ) where
       rw (accepted-told a, a .closes)
       (record {
         legs = sound .few;
-        w = misclosure-most _ (f .given);
+        w = misclosure-most _ (f .closing .given);
         north = near north;
         east = near east;
         precision = omega (arith, precision-most (northClosure e b) (eastClosure e b) (distanceRun b) (omega arith));
@@ -139,14 +139,14 @@ module _ (e : ℕ → ℤ) (tape : List ℕ) (words : List ℤ) (none : traverse
   pub word-small : Entries e → (axis : Axis) (k : ℕ) → k ≤ b .legs → natAbs (getD (traversedWordsBy e tape words) (at axis k) (pos 0)) < 2 ^ 40
   word-small entries axis k h = place-small e entries b sound axis k (closes-near b sound e axis (a .closes)) h _ (station axis k h)
 
-  pub first-station : (axis : Axis) → getD (traversedWordsBy e tape words) (at axis 0) (pos 0) ≡ pos (along axis (fieldsOf tape .from))
+  pub first-station : (axis : Axis) → getD (traversedWordsBy e tape words) (at axis 0) (pos 0) ≡ pos (along axis (fieldsOf tape .opening .from))
   unfolding balancedTraverse
   first-station axis = rw accepted-words (first-word e b words sound (a .wide) axis)
 
-  pub last-station : (axis : Axis) → getD (traversedWordsBy e tape words) (at axis (fieldsOf tape .legs)) (pos 0) ≡ pos (along axis (fieldsOf tape .to))
+  pub last-station : (axis : Axis) → getD (traversedWordsBy e tape words) (at axis (fieldsOf tape .line .legs)) (pos 0) ≡ pos (along axis (fieldsOf tape .closing .to))
   unfolding balancedTraverse
   last-station axis = rw accepted-words (last-word e b words sound (a .wide) axis)
 
-  pub later-words : (i : ℕ) → 2 * (fieldsOf tape .legs + 1) ≤ i → getD (traversedWordsBy e tape words) i (pos 0) ≡ getD words i (pos 0)
+  pub later-words : (i : ℕ) → 2 * (fieldsOf tape .line .legs + 1) ≤ i → getD (traversedWordsBy e tape words) i (pos 0) ≡ getD words i (pos 0)
   unfolding balancedTraverse
   later-words i h = rw accepted-words (words-later e b words (b .legs + 1) i h)

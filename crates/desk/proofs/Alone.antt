@@ -1,5 +1,5 @@
--- An accepted tape's answer depends on its fields alone, and so do the words of any tape that reads. The place of the close, which the desk keeps for its
--- refusals, is no field: with another place all definitions that an acceptance uses have the same values.
+-- An accepted tape's answer depends on its fields alone, and so do the words of any tape that reads. The places where the line begins and
+-- where the close stands, which the desk keeps for its walk and its refusals, are no fields: with other places all definitions that an acceptance uses have the same values.
 use Prim.Native.Nat.{ℕ, zero, suc, _+_}
 use mathlib.Core.Path.{_≡_, refl, sym, _∙_, ap}
 use mathlib.Core.Bool.{Bool, true, false, cond}
@@ -14,21 +14,14 @@ use Rattle.desk.specs.Answer.{stopped, good, checkedAngles, firstOf, clo
 use Rattle.desk.specs.Traverse.{placed, offsetsTo, areaOf}
 use Rattle.desk.proofs.Accepted.{Accepted, accepted, accepted-told}
 
--- the fields of a tape, the place of its close put aside
+-- the fields of a tape, the places where its line begins and where its close stands put aside
 abbrev pub bare : Fields → Fields
 bare f =
     record {
-      legs = f .legs;
-      angles = f .angles;
-      distances = f .distances;
-      latitude = f .latitude;
-      elevation = f .elevation;
-      scale = f .scale;
-      from = f .from;
-      mark = f .mark;
-      to = f .to;
-      given = f .given;
-      place = 0;
+      site = f .site;
+      opening = record { from = f .opening .from; mark = f .opening .mark; line = 0 };
+      line = f .line;
+      closing = record { to = f .closing .to; given = f .closing .given; place = 0 };
     }
 
 abbrev bareTraverse : Balanced → Balanced
@@ -55,7 +48,7 @@ module _ (f : Fields) where
   unfolding balancedTraverse
   traverse-bare = rw misclosure-bare
 
-  angles-bare : closesAngles (misclosureOf f) (f .legs) ≡ closesAngles (misclosureOf (bare f)) (f .legs)
+  angles-bare : closesAngles (misclosureOf f) (f .line .legs) ≡ closesAngles (misclosureOf (bare f)) (f .line .legs)
   angles-bare = rw misclosure-bare
 
 -- ---- the second step
@@ -97,13 +90,13 @@ module _ (e : ℕ → ℤ) (f : Fields) where
 
   -- the words, from the fields
   abbrev wordsFrom : List ℤ → List ℤ
-  wordsFrom words = cond (closesAngles (misclosureOf f) (f .legs)) (secondWords e b words) words
+  wordsFrom words = cond (closesAngles (misclosureOf f) (f .line .legs)) (secondWords e b words) words
 
   words-from : (words : List ℤ) → wordsAfterFirst e (checkedAngles f) words ≡ wordsFrom words
   unfolding checkedAngles
-  words-from words = go (closesAngles (misclosureOf f) (f .legs))
+  words-from words = go (closesAngles (misclosureOf f) (f .line .legs))
     where
-      go : (x : Bool) → wordsAfterFirst e (cond x (good b) (stopped 8 (f .place))) words ≡ cond x (secondWords e b words) words
+      go : (x : Bool) → wordsAfterFirst e (cond x (good b) (stopped 8 (f .closing .place))) words ≡ cond x (secondWords e b words) words
       go true = refl
       go false = refl
 
@@ -123,7 +116,7 @@ module _ (e : ℕ → ℤ) (s t : List ℕ) (a : DoesRead s) (b : DoesRead t) (s
       record {
         wide = x .wide;
         reads = b;
-        angles = sym (by-bare (λ u. closesAngles (misclosureOf u) (u .legs)) (angles-bare f) (angles-bare g)) ∙ x .angles;
+        angles = sym (by-bare (λ u. closesAngles (misclosureOf u) (u .line .legs)) (angles-bare f) (angles-bare g)) ∙ x .angles;
         closes = sym (by-bare (λ u. closesOn e (balancedTraverse u)) (closes-bare e f) (closes-bare e g)) ∙ x .closes;
       }
 

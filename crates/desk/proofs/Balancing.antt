@@ -22,12 +22,12 @@ use Rattle.steps.specs.Azimuth.{halfCircle, misclosure, closesAngles, balanced,
 use Rattle.steps.specs.Share.{share, angleShareStep}
 use Rattle.steps.proofs.Sharing.{share-most}
 use Rattle.steps.proofs.Turning.{misclosure-is}
-use Rattle.desk.specs.Angles.{turnsOf, misclosureOf, zeros, balancedTraverse}
+use Rattle.desk.specs.Angles.{distanceAt, turnsOf, misclosureOf, zeros, balancedTraverse}
 use Rattle.desk.specs.Traverse.{azimuthOf}
 use Rattle.desk.specs.Turns.{balancedAt}
 use Rattle.desk.specs.Inside.{Ready, Sound, AllTurned, balancedBy, balancedIn}
 use Rattle.tape.specs.Fields.{Fields}
-use Rattle.whole.proofs.Filling.{filled-length, filled-behind, filled-on}
+use Rattle.whole.proofs.Filling.{filled-length, filled-at, filled-behind, filled-on}
 use Rattle.desk.proofs.Scaling.{combined-range}
 use Rattle.desk.proofs.Turning.{balanced-most, balanced-at-turned, filled-balanced-at}
 
@@ -108,17 +108,24 @@ module _ (r : Amount) (v : ℤ) (closing given : ℕ) (g : v ≡ told r .value) 
 -- ---- the traverse with its angles balanced
 module _ (f : Fields) where
   -- the azimuth that leg k has in it is its balanced one
-  leg-azimuth : (k : ℕ) → k < f .legs → f .legs ≤ 64
+  leg-azimuth : (k : ℕ) → k < f .line .legs → f .line .legs ≤ 64
       → azimuthOf (balancedTraverse f) k ≡ balancedAt (turnsOf f) (misclosureOf f) k
   unfolding balancedTraverse
   leg-azimuth k h few =
-      let room : f .legs ≤ length zeros = omega (arith, length-replicate {A = ℕ} 64 0) in
-      filled-balanced-at (turnsOf f) (f .legs) zeros room (misclosureOf f) k h
+      let room : f .line .legs ≤ length zeros = omega (arith, length-replicate {A = ℕ} 64 0) in
+      filled-balanced-at (turnsOf f) (f .line .legs) zeros room (misclosureOf f) k h
+
+  -- and the distance is the measured one
+  leg-measured : (k : ℕ) → k < f .line .legs → f .line .legs ≤ 64
+      → getD (balancedTraverse f .distances) k 0 ≡ distanceAt f k
+  unfolding balancedTraverse
+  leg-measured k h few =
+      filled-at (distanceAt f) zeros (f .line .legs) k (omega (arith, length-replicate {A = ℕ} 64 0)) h
 
   pub sound-of : Ready f → Sound (balancedTraverse f)
   unfolding balancedTraverse
   sound-of r =
-      let s = combined-range (f .elevation .v) (f .scale) (r .elevation) (r .scale-low) (r .scale-high) in
+      let s = combined-range (f .site .elevation .v) (f .site .scale) (r .elevation) (r .scale-low) (r .scale-high) in
       record {
         some = r .some;
         few = r .few;
@@ -127,8 +134,8 @@ module _ (f : Fields) where
             record {
               least = s .0;
               most = s .1;
-              far = r .far k h;
-              near = r .near k h;
+              far = rw (leg-measured k h (r .few)) (r .far k h);
+              near = rw (leg-measured k h (r .few)) (r .near k h);
               turned = rw (leg-azimuth k h (r .few)) (balanced-at-turned (turnsOf f) _ k);
             };
         from = r .from;

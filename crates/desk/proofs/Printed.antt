@@ -20,7 +20,7 @@ use Rattle.steps.specs.Share.{share}
 use Rattle.records.specs.Bytes.{num, bytes, meant, written}
 use Rattle.records.specs.Record.{Rec, rec, table, fieldsOf, bodyOf, numbersOf, goodOf, bytesOf}
 use Rattle.tape.specs.Tape.{mayCome, roomOf, rowNext, projectNext, afterOf, takeOf, judge, stepOf, walk, readingOf, recordsFrom, tapeOf}
-use Rattle.tape.specs.Fields.{nothing, putIn, gathered, isRow, scaleOf, fieldsOf as named}
+use Rattle.tape.specs.Fields.{pick, placeOf, angleOf, distanceOf, isRow, scaleOf, picked}
 use Rattle.desk.specs.Line.{run, preliminary, adjusted}
 use Rattle.desk.specs.Traverse.{placed, offsetsTo, areaOf}
 use Rattle.whole.specs.Filled.{filled}
@@ -47,7 +47,7 @@ abbrev pub answer : Told
 answer = record { number = 0; place = 0; legs = 4; w = pos 5; north = negℤ (pos 1); east = pos 2; precision = 178886; area = pos 20000200000; loop = true }
 
 pub printed-told : traversed (tapeOf records) 130 ≡ answer
-unfolding nearest sumTo exactSine exactQuarter bySeries series weight unity straight pi factorial around turned folded entry between quarterBy sineBy cross nextStation doubledTo turn misclosure closesAngles balanced closes root precision move sineAlong seaLevel combine grid share num bytes meant written table fieldsOf bodyOf numbersOf goodOf bytesOf mayCome roomOf rowNext projectNext afterOf takeOf judge stepOf walk readingOf recordsFrom tapeOf nothing putIn gathered isRow scaleOf named run preliminary adjusted placed offsetsTo areaOf carried misclosureOf balancedAt filled balancedTraverse checkedAngles firstOf firstFor closesOn second traversedBy
+unfolding nearest sumTo exactSine exactQuarter bySeries series weight unity straight pi factorial around turned folded entry between quarterBy sineBy cross nextStation doubledTo turn misclosure closesAngles balanced closes root precision move sineAlong seaLevel combine grid share num bytes meant written table fieldsOf bodyOf numbersOf goodOf bytesOf mayCome roomOf rowNext projectNext afterOf takeOf judge stepOf walk readingOf recordsFrom tapeOf pick placeOf angleOf distanceOf isRow scaleOf picked run preliminary adjusted placed offsetsTo areaOf carried misclosureOf balancedAt filled balancedTraverse checkedAngles firstOf firstFor closesOn second traversedBy
 printed-told = refl
 
 -- the five stations, and behind them the words as they were lent
@@ -55,5 +55,5 @@ abbrev pub stations : List ℤ
 stations = pos 5000000 ∷ pos 200000000 ∷ pos 5100000 ∷ pos 200000000 ∷ pos 5100001 ∷ pos 200100001 ∷ pos 5000000 ∷ pos 200100000 ∷ pos 5000000 ∷ pos 200000000 ∷ []
 
 pub printed-words : (z : ℤ) → traversedWords (tapeOf records) (replicate 130 z) ≡ stations ++ replicate 120 z
-unfolding nearest sumTo exactSine exactQuarter bySeries series weight unity straight pi factorial around turned folded entry between quarterBy sineBy turn misclosure closesAngles balanced closes move sineAlong seaLevel combine grid share num bytes meant written table fieldsOf bodyOf numbersOf goodOf bytesOf mayCome roomOf rowNext projectNext afterOf takeOf judge stepOf walk readingOf recordsFrom tapeOf nothing putIn gathered isRow scaleOf named run preliminary adjusted placed carried misclosureOf balancedAt filled balancedTraverse checkedAngles firstOf firstFor closesOn secondWords traversedWordsBy
+unfolding nearest sumTo exactSine exactQuarter bySeries series weight unity straight pi factorial around turned folded entry between quarterBy sineBy turn misclosure closesAngles balanced closes move sineAlong seaLevel combine grid share num bytes meant written table fieldsOf bodyOf numbersOf goodOf bytesOf mayCome roomOf rowNext projectNext afterOf takeOf judge stepOf walk readingOf recordsFrom tapeOf pick placeOf angleOf distanceOf isRow scaleOf picked run preliminary adjusted placed carried misclosureOf balancedAt filled balancedTraverse checkedAngles firstOf firstFor closesOn secondWords traversedWordsBy
 printed-words z = refl

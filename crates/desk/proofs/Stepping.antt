@@ -13,9 +13,9 @@ use Rattle.minutes.specs.Entry.{entry}
 use Rattle.sines.specs.Sine.{entryIn}
 use Rattle.steps.specs.Azimuth.{closesAngles}
 use Rattle.steps.specs.Course.{Axis, north, east}
-use Rattle.tape.specs.Fields.{Fields, fieldsOf, DoesRead, takenOf}
+use Rattle.tape.specs.Fields.{Fields, fieldsOf, AllBytes, DoesRead, takenOf}
 use Rattle.whole.proofs.Branch.{T-true, by-test}
-use Rattle.tape.proofs.Held.{Ranged, ranged}
+use Rattle.tape.proofs.Ranges.{Ranged, ranged}
 use Rattle.tape.specs.declared.Control.{Control}
 use Rattle.tape.specs.declared.Taken.{Taken}
 use Rattle.tape.specs.declared.Taken.the-variants as taken
@@ -26,14 +26,14 @@ use Rattle.desk.specs.declared.Frame.{Frame}
 use Rattle.desk.specs.Answer.{told, refused, First, stopped, good, checkedAngles, firstOf, firstFor, second, secondWords, afterFirst, wordsAfterFirst, traversedBy, traversedWordsBy}
 use Rattle.desk.specs.Traverse.{along}
 use Rattle.desk.specs.Inside.{Known, Ready, Sound, checkedAs, withLegs}
-use Rattle.tape.proofs.Legs.{took, took-not}
+use Rattle.tape.proofs.Standing.{took, took-not}
 use Rattle.sines.proofs.Own.{no-entries}
 use Rattle.desk.proofs.Balancing.{sound-of}
 
 -- ---- the fields of a tape that reads
 ready-of : (f : Fields) → Ranged f → Ready f
 ready-of f r =
-    let z = f .elevation .v in
+    let z = f .site .elevation .v in
     record {
       some = r .legs .0;
       few = r .legs .1;
@@ -49,11 +49,11 @@ ready-of f r =
       to = to;
     }
   where
-    from : (axis : Axis) → along axis (f .from) ≤ 1000000000
+    from : (axis : Axis) → along axis (f .opening .from) ≤ 1000000000
     from north = r .from .0
     from east = r .from .1
 
-    to : (axis : Axis) → along axis (f .to) ≤ 1000000000
+    to : (axis : Axis) → along axis (f .closing .to) ≤ 1000000000
     to north = r .to .0
     to east = r .to .1
 
@@ -93,8 +93,8 @@ module _ (tape : List ℕ) (r : Checked) (azimuths distances : List ℕ) (f : ch
       settled-words l words g = g ∙ by-checked (λ (x : First). wordsAfterFirst e x words) (checked.Good b) h
 
 -- ---- the whole, by any table of sines
-pub known-is : (tape : List ℕ) (t : Taken) → t ≡ takenOf tape → (c : Control) → t ≡ taken.Reads c → Known tape c
-known-is tape t f c h = let k = took tape c (sym f ∙ h) in record { reads = k .0; is = k .1 }
+pub known-is : (tape : List ℕ) (t : Taken) → AllBytes tape → t ≡ takenOf tape → (c : Control) → t ≡ taken.Reads c → Known tape c
+known-is tape t b f c h = let k = took tape c (sym f ∙ h) in record { bytes = b; reads = k .0; is = k .1 }
 
 module _ (e : ℕ → ℤ) (tape : List ℕ) (words : List ℤ) where
   module _ (wide : 130 ≤ length words) (c : Control) (known : Known tape c) where
@@ -125,12 +125,12 @@ module _ (e : ℕ → ℤ) (tape : List ℕ) (words : List ℤ) where
       unfolding traversedWordsBy firstFor firstOf
       refused-words = rw (le-ltb (length words) 130 wide, took-not tape n p (sym f ∙ h))
 
-    module _ (c : Control) (h : t ≡ taken.Reads c) where
+    module _ (bytes : AllBytes tape) (c : Control) (h : t ≡ taken.Reads c) where
       pub good-told : (r : Answer) → told r ≡ afterFirst e (checkedAngles (fieldsOf tape)) → told r ≡ traversedBy e tape (length words)
-      good-told = known-told wide c (known-is tape t f c h)
+      good-told = known-told wide c (known-is tape t bytes f c h)
 
       pub good-words : (l : List ℤ) → l ≡ wordsAfterFirst e (checkedAngles (fieldsOf tape)) words → l ≡ traversedWordsBy e tape words
-      good-words = known-words wide c (known-is tape t f c h)
+      good-words = known-words wide c (known-is tape t bytes f c h)
 
 -- ---- with no table lent, every entry is the desk's own
 pub own-told : (tape : List ℕ) (room : ℕ) (r : Answer) → told r ≡ traversedBy (entryIn []) tape room → told r ≡ traversedBy entry tape room

@@ -13,23 +13,26 @@ use Rattle.whole.specs.declared.Whole.{Whole}
 use Rattle.desk.specs.Turns.{Turns, carried, balancedAt}
 
 abbrev pub angleAt : Fields → ℕ → ℕ
-angleAt f k = getD (f .angles) k 0
+angleAt f k = getD (f .line .angles) k 0
+
+abbrev pub distanceAt : Fields → ℕ → ℕ
+distanceAt f k = getD (f .line .distances) k 0
 
 -- the angles of a tape. "Leg 1: azimuth to the mark plus its angle right": that angle stands before
 -- leg 1. "Share of W at the j-th of n+1 angles": leg k is at the (k+1)-th
 abbrev pub turnsOf : Fields → Turns
 turnsOf f =
     record {
-      legs = f .legs;
-      first = fromMark (f .mark) (angleAt f 0);
-      angles = f .angles;
-      shared = f .legs + 1;
+      legs = f .line .legs;
+      first = fromMark (f .opening .mark) (angleAt f 0);
+      angles = f .line .angles;
+      shared = f .line .legs + 1;
       ahead = 1;
     }
 
 -- "Misclosure W = carried less given"
 unfoldable pub misclosureOf : Fields → ℤ
-misclosureOf f = misclosure (carried (turnsOf f) (f .legs)) (f .given)
+misclosureOf f = misclosure (carried (turnsOf f) (f .line .legs)) (f .closing .given)
 
 -- the list before any leg is balanced
 abbrev pub zeros : List ℕ
@@ -53,13 +56,13 @@ pub record Balanced : Type 0 where
 unfoldable pub balancedTraverse : Fields → Balanced
 balancedTraverse f =
     record {
-      legs = f .legs;
+      legs = f .line .legs;
       angles = turnsOf f .shared;
       w = record { v = misclosureOf f };
-      azimuths = filled (balancedAt (turnsOf f) (misclosureOf f)) (f .legs) zeros;
-      distances = f .distances;
-      factor = combine (seaLevel (f .elevation .v)) (f .scale);
-      from = f .from;
-      to = f .to;
-      place = f .place;
+      azimuths = filled (balancedAt (turnsOf f) (misclosureOf f)) (f .line .legs) zeros;
+      distances = filled (distanceAt f) (f .line .legs) zeros;
+      factor = combine (seaLevel (f .site .elevation .v)) (f .site .scale);
+      from = f .opening .from;
+      to = f .closing .to;
+      place = f .closing .place;
     }

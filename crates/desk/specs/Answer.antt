@@ -56,7 +56,7 @@ pub data First : Type 0 where
   good : Balanced → First
 
 unfoldable pub checkedAngles : Fields → First
-checkedAngles f = cond (closesAngles (misclosureOf f) (f .legs)) (good (balancedTraverse f)) (stopped 8 (f .place))
+checkedAngles f = cond (closesAngles (misclosureOf f) (f .line .legs)) (good (balancedTraverse f)) (stopped 8 (f .closing .place))
 
 abbrev pub firstIf : Reading → Fields → First
 firstIf (reading.Refused n p) f = stopped n p

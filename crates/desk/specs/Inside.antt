@@ -15,12 +15,12 @@ use Rattle.steps.specs.Closure.{precision}
 use Rattle.steps.specs.Distance.{grid, seaLevel, combine}
 use Rattle.steps.specs.Share.{share}
 use Rattle.whole.specs.Filled.{filled}
-use Rattle.desk.specs.Angles.{angleAt, Balanced}
+use Rattle.desk.specs.Angles.{angleAt, distanceAt, Balanced}
 use Rattle.desk.specs.Answer.{told, First, stopped, good, northClosure, eastClosure, distanceRun}
 use Rattle.desk.specs.Line.{run, preliminary}
 use Rattle.desk.specs.Sheet.{textOf}
 use Rattle.desk.specs.Traverse.{along, longOf, azimuthOf, line, at, same}
-use Rattle.tape.specs.Fields.{Fields, fieldsOf, DoesRead, controlOf}
+use Rattle.tape.specs.Fields.{Fields, fieldsOf, AllBytes, DoesRead, controlOf}
 use Rattle.tape.specs.declared.Point.{Point}
 use Rattle.whole.specs.declared.Whole.{Whole}
 use Rattle.desk.specs.declared.Answer.{Answer}
@@ -35,18 +35,9 @@ use Rattle.desk.specs.declared.area.Offsets.{Offsets}
 
 -- what was taken of a tape that reads
 pub record Known (tape : List ℕ) (c : Control) : Type 0 where
+  pub bytes : AllBytes tape
   pub reads : DoesRead tape
   pub is : c ≡ controlOf (fieldsOf tape)
-
--- legs and a close that stand on a tape, nine bytes for a leg
-pub record Placeable (c : Control) : Type 0 where
-  pub some : 1 ≤ c .legs
-  pub few : c .legs ≤ 64
-  pub before : 9 * c .legs ≤ c .place
-  pub near : c .place ≤ 4811
-
-abbrev pub distanceAt : Fields → ℕ → ℕ
-distanceAt f k = getD (f .distances) k 0
 
 -- what the combined factor is taken of is in the ranges of the tape
 pub record Scaled (c : Control) : Type 0 where
@@ -106,18 +97,18 @@ pub record Shareable (legs ahead angles : ℕ) : Type 0 where
 
 -- fields in the ranges of the tape
 pub record Ready (f : Fields) : Type 0 where
-  pub some : 1 ≤ f .legs
-  pub few : f .legs ≤ 64
-  pub mark : f .mark < circle
-  pub given : f .given < circle
-  pub angles : (k : ℕ) → k ≤ f .legs → angleAt f k < circle
-  pub elevation : (leZ (negℤ (pos 1000)) (f .elevation .v) && leZ (f .elevation .v) (pos 20000)) ≡ true
-  pub scale-low : 9990000 ≤ f .scale
-  pub scale-high : f .scale ≤ 10010000
-  pub far : (k : ℕ) → k < f .legs → 1000 ≤ distanceAt f k
-  pub near : (k : ℕ) → k < f .legs → distanceAt f k ≤ 20000000
-  pub from : (axis : Axis) → along axis (f .from) ≤ 1000000000
-  pub to : (axis : Axis) → along axis (f .to) ≤ 1000000000
+  pub some : 1 ≤ f .line .legs
+  pub few : f .line .legs ≤ 64
+  pub mark : f .opening .mark < circle
+  pub given : f .closing .given < circle
+  pub angles : (k : ℕ) → k ≤ f .line .legs → angleAt f k < circle
+  pub elevation : (leZ (negℤ (pos 1000)) (f .site .elevation .v) && leZ (f .site .elevation .v) (pos 20000)) ≡ true
+  pub scale-low : 9990000 ≤ f .site .scale
+  pub scale-high : f .site .scale ≤ 10010000
+  pub far : (k : ℕ) → k < f .line .legs → 1000 ≤ distanceAt f k
+  pub near : (k : ℕ) → k < f .line .legs → distanceAt f k ≤ 20000000
+  pub from : (axis : Axis) → along axis (f .opening .from) ≤ 1000000000
+  pub to : (axis : Axis) → along axis (f .closing .to) ≤ 1000000000
 
 -- a leg whose fields are in range, and its factor
 pub record LegSound (factor distance azimuth : ℕ) : Type 0 where

@@ -10,8 +10,8 @@ ghost use Rattle.steps.specs.Azimuth.{fromMark, onward, misclosure, closesAngle
 ghost use Rattle.steps.specs.Share.{share};
 ghost use Rattle.tape.specs.Fields.{fieldsOf};
 ghost use Rattle.whole.specs.Filled.{filled};
-ghost use Rattle.desk.specs.Angles.{turnsOf, zeros};
-ghost use Rattle.desk.specs.Inside.{Known, Placeable, Scaled, AllTurned, Shareable};
+ghost use Rattle.desk.specs.Angles.{distanceAt, turnsOf, zeros};
+ghost use Rattle.desk.specs.Inside.{Known, Scaled, AllTurned, Shareable};
 ghost use Rattle.desk.specs.Inside.{balancedIn, frameOf};
 ghost use Rattle.desk.specs.Turns.{carried};
 
@@ -32,26 +32,25 @@ fn next(before: u32, angle: u32) -> u32
     steps::azimuth::onward(before, angle).value() as u32
 }
 
-// The azimuth carried to each leg, and its measured distance, into the lent lists; what comes back is the azimuth carried to the closing mark. A leg's
-// record has nine bytes, its angle behind the first and its distance behind that; the closing angle stands likewise in the close.
+// The azimuth carried to each leg, and its measured distance, into the lent lists; what comes back is the azimuth carried to the
+// closing mark. The legs are walked from the first to the close, whose angle is the closing one.
 pub fn carry(tape: &[u8], c: Control, azimuths: &mut [u32], distances: &mut [u32]) -> u32
     requires { ⌜ Known (now tape) c ⌝ }
-    requires { ⌜ Placeable c ⌝ }
     requires { ⌜ (now azimuths ≡ zeros) × (now distances ≡ zeros) ⌝ }
     ensures closing { λ r. ⌜ r ≡ carried (turnsOf (fieldsOf (now (tape .entry)))) (c .legs) ⌝ }
     ensures azimuths { λ r. ⌜ now (azimuths .exit)
         ≡ filled (carried (turnsOf (fieldsOf (now (tape .entry))))) (c .legs) zeros ⌝ }
-    ensures distances { λ r. ⌜ now (distances .exit) ≡ fieldsOf (now (tape .entry)) .distances ⌝ }
+    ensures distances { λ r. ⌜ now (distances .exit) ≡ filled (distanceAt (fieldsOf (now (tape .entry)))) (c .legs) zeros ⌝ }
 {
-    let mut at = c.place - 9 * c.legs;
-    let mut azimuth = first(c.mark, tape::four(tape, at + 1));
+    let mut sight = tape::sight_at(tape, c.line);
+    let mut azimuth = first(c.mark, sight.angle);
     let mut k: usize = 0;
     while k < c.legs {
         azimuths[k] = azimuth;
-        distances[k] = tape::four(tape, at + 5);
-        at = at + 9;
+        distances[k] = sight.distance;
+        sight = tape::sight_at(tape, sight.next);
         k = k + 1;
-        azimuth = next(azimuth, tape::four(tape, at + 1));
+        azimuth = next(azimuth, sight.angle);
     }
     azimuth
 }

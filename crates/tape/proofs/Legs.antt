@@ -14,7 +14,7 @@ use borrow.Author.Tests.{le-leb, eqb-true}
 use Rattle.records.specs.Bytes.{four, num}
 use Rattle.records.specs.Record.{Rec, rowKind, projectKind, startKind, legKind, closeKind, fieldsOf, table, bodyOf}
 use Rattle.tape.specs.Tape.{isLeg, recordsOf}
-use Rattle.tape.specs.Fields.{Fields, number, pick, none, placeOf, turns, angleOf, distanceOf, picked, DoesRead}
+use Rattle.tape.specs.Fields.{Fields, number, pick, none, placeOf, turns, angleOf, distanceOf, picked, AllBytes, DoesRead}
 use Rattle.tape.specs.Fields.{fieldsOf as named}
 use Rattle.tape.specs.Legs.{sightAt, Rest, Legs, last, leg, Order, row, opens, LegAt}
 use Rattle.tape.proofs.Ordered.{order-of}
@@ -130,10 +130,9 @@ first-at tape (opens p s l {rs} one two is legs) at h same =
       less = rw (skips turns projectKind p (s ∷ l ∷ rs) one refl, skips turns startKind s (l ∷ rs) two refl) at same;
     })
 
-module _ (tape : List ℕ) (d : DoesRead tape) where
-  pub leg-first : LegAt tape 0 (named tape .opening .line)
-  unfolding picked
-  leg-first = first-at tape (order-of tape d .order) 0 (rest-start tape d) refl
+pub leg-first : (tape : List ℕ) → AllBytes tape → DoesRead tape → LegAt tape 0 (named tape .opening .line)
+unfolding picked
+leg-first tape b d = first-at tape (order-of tape d .order) 0 (rest-start tape b d) refl
 
 -- ---- the angle of leg k, and the closing one
 pub leg-angle : (tape : List ℕ) (k at : ℕ) → LegAt tape k at → sightAt tape at .angle ≡ getD (named tape .line .angles) k 0

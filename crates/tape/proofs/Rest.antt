@@ -11,7 +11,7 @@ use lib.ListN.{length, getD, drop, length-append, length-drop}
 use lib.Seq.{drop-drop, drop-at}
 use Rattle.records.specs.Bytes.{four, size, num, unsigned, meant}
 use Rattle.records.specs.Record.{Field, Rec, fieldsOf, total, numbers, numbersOf, bodyOf, bytesOf}
-use Rattle.tape.specs.Fields.{signed, number, DoesRead}
+use Rattle.tape.specs.Fields.{signed, number, AllBytes, DoesRead}
 use Rattle.tape.specs.Legs.{Good, Rest, offset, fieldAt}
 use Rattle.tape.specs.Tape.{judge, start, recordsOf, tapeOf, runOf}
 use Rattle.tape.specs.declared.State.{State}
@@ -32,9 +32,9 @@ good-run st at (r ∷ rs) last e =
 pub good-records : (tape : List ℕ) → DoesRead tape → Good (recordsOf tape)
 good-records tape d = good-run start 0 _ (d .last) (lawful tape (d .last) (d .reads))
 
-pub rest-start : (tape : List ℕ) → DoesRead tape → Rest tape 0 (recordsOf tape)
-rest-start tape d =
-    record { is = sym (same-bytes tape (d .last) (d .bytes) (d .reads)); good = good-records tape d }
+pub rest-start : (tape : List ℕ) → AllBytes tape → DoesRead tape → Rest tape 0 (recordsOf tape)
+rest-start tape b d =
+    record { is = sym (same-bytes tape (d .last) b (d .reads)); good = good-records tape d }
 
 -- ---- a record at a place
 module _ (tape : List ℕ) (at : ℕ) (r : Rec) (rs : List Rec) (h : Rest tape at (r ∷ rs)) where

@@ -185,13 +185,13 @@ module _ (tape : List ℕ) (end : State) (m : ℕ) where
 -- ---- a tape that reads, by the last state and its length
 module _ (tape : List ℕ) (last : State) (to : ReadsTo tape last) where
   abbrev does : DoesRead tape
-  does = record { bytes = to .bytes; last = last; reads = to .reads }
+  does = record { last = last; reads = to .reads }
 
   opening : Found tape (recordsOf tape) 0 (last .rows * 7)
-  opening = found tape (order-of tape does .order) 0 _ (rest-start tape does) (omega (arith, order-of tape does .rows))
+  opening = found tape (order-of tape does .order) 0 _ (rest-start tape (to .bytes) does) (omega (arith, order-of tape does .rows))
 
   closing : Shut tape (recordsOf tape) 0
-  closing = shut tape (order-of tape does .order) 0 (rest-start tape does)
+  closing = shut tape (order-of tape does .order) 0 (rest-start tape (to .bytes) does)
 
   pub long : last .rows * 7 + 18 ≤ length tape
   unfolding bodyOf fieldsOf table
@@ -226,7 +226,7 @@ module _ (tape : List ℕ) (last : State) (to : ReadsTo tape last) where
         let run = runs start 0 (recordsOf tape) last (lawful tape last (to .reads)) in
         let high = under in
         let low = row-low in
-        scale-run tape last m (run .0) (run .1) refl (last .rows - (last .next - m)) 0 _ (rest-start tape does) (omega arith) (omega arith) (omega arith)
+        scale-run tape last m (run .0) (run .1) refl (last .rows - (last .next - m)) 0 _ (rest-start tape (to .bytes) does) (omega arith) (omega arith) (omega arith)
 
   pub row-high : num two tape (last .rows * 7 + 1) < last .next
   row-high = under _ refl
@@ -322,12 +322,12 @@ module _ (tape : List ℕ) (r : Reading) (e : r ≡ readingOf tape) where
   told-refused n p h = rw (← e, h)
 
 -- ---- and what a caller learns from it: the tape reads, and the control is its own, or the reading is the refusal
-pub took : (tape : List ℕ) (c : Control) → AllBytes tape → takenOf tape ≡ taken.Reads c → DoesRead tape × (c ≡ controlOf (named tape))
+pub took : (tape : List ℕ) (c : Control) → takenOf tape ≡ taken.Reads c → DoesRead tape × (c ≡ controlOf (named tape))
 unfolding takenOf
-took tape c b = go (readingOf tape) refl
+took tape c = go (readingOf tape) refl
   where
     go : (r : Reading) → readingOf tape ≡ r → takenIf r (named tape) ≡ taken.Reads c → DoesRead tape × (c ≡ controlOf (named tape))
-    go (Reads st) e h = (record { bytes = b; last = st; reads = e }, cc)
+    go (Reads st) e h = (record { last = st; reads = e }, cc)
     go (Refused n p) e h = let z : _≡_ {A = ℕ} 0 1 = cc in absurd (omega arith)
 
 pub took-not : (tape : List ℕ) (n p : ℕ) → takenOf tape ≡ taken.Refused n p → readingOf tape ≡ Refused n p

@@ -172,8 +172,7 @@ pub record ReadsTo (tape : List ℕ) (last : State) : Type 0 where
   pub bytes : AllBytes tape
   pub reads : readingOf tape ≡ reading.Reads last
 
--- a tape of bytes that reads
+-- a tape that reads
 pub record DoesRead (tape : List ℕ) : Type 0 where
-  pub bytes : AllBytes tape
   pub last : State
   pub reads : readingOf tape ≡ reading.Reads last

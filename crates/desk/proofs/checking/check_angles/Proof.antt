@@ -1,11 +1,11 @@
 -- `check_angles` meets its contract: the test of the misclosure decides between the refusal and the balanced traverse.
-use Rattle.desk.proofs.Carrying.{placeable, given-turned, closing-turned, legs-some, legs-few, all-turned, scaled, checked-good, checked-bad}
+use Rattle.desk.proofs.Carrying.{given-turned, closing-turned, legs-some, legs-few, all-turned, scaled, checked-good, checked-bad}
 use borrow.Author.Needs.{needs}
 use Rattle.desk.proofs.checking.check_angles.Statement.{statement}
 use Rattle.desk.proofs.checking.check_angles.Tie as tie
 
 carry-requires : tie.Need-carry-requires
-carry-requires c κs = (search needs, (search placeable, search needs))
+carry-requires c κs = search needs
 
 misclosure-of-requires : tie.Need-misclosure-of-requires
 misclosure-of-requires c κs = (search closing-turned, search given-turned)
