@@ -1,13 +1,13 @@
 -- The first step on the bytes of a tape that reads. What the walk sights at leg k is the leg's own angle and distance; the azimuths
 -- carried with them are the carried ones, and what is left in the lists is the traverse with its angles balanced.
-use Prim.Native.Nat.{ℕ, _+_, _-_, _*_, _≤_, _<_}
+use Prim.Native.Nat.{ℕ, _+_, _-_, _≤_, _<_}
 use native.Mathlib.Omega.{arith}
 use native.Mathlib.Nat.{mod-lt}
-use mathlib.Core.Path.{_≡_, refl, sym, _∙_, ap, subst}
+use mathlib.Core.Path.{_≡_, _∙_, ap, subst}
 use mathlib.Core.Bool.{Bool, true, false}
 use mathlib.Core.List.{List}
-use lib.ListN.{length, getD, set, length-replicate}
-use lib.IntN.{ℤ, natAbs}
+use lib.ListN.{length, set, length-replicate}
+use lib.IntN.{ℤ}
 use Rattle.whole.specs.declared.Whole.{Whole}
 use Rattle.minutes.specs.Quadrant.{circle}
 use Rattle.steps.specs.Azimuth.{fromMark, onward, misclosure, closesAngles}

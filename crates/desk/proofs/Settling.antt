@@ -22,11 +22,9 @@ use Rattle.steps.specs.Course.{Axis, north, east}
 use Rattle.steps.specs.Distance.{grid}
 use Rattle.steps.specs.Share.{share, shareStep}
 use Rattle.desk.specs.Line.{run, preliminary, closure, adjusted}
-use Rattle.desk.specs.Traverse.{along, longOf, line, placed, isLoop, areaOf}
-use Rattle.desk.specs.Answer.{told, refused, northClosure, eastClosure, distanceRun, closesOn, second, secondWords}
+use Rattle.desk.specs.Traverse.{along, longOf, line, placed}
+use Rattle.desk.specs.Answer.{refused, northClosure, eastClosure, distanceRun, closesOn, second, secondWords}
 use Rattle.desk.specs.Inside.{withLegs, Sound, Small, Stands, wordAt, Left, Closed, Ended, Near, Shared, putTo, Placed}
-use Rattle.whole.specs.declared.Whole.{Whole}
-use Rattle.desk.specs.declared.Answer.the-variants.{Adjusted}
 use Rattle.tape.specs.declared.Point.{Point}
 use Rattle.desk.specs.Angles.{Balanced}
 use Rattle.desk.specs.declared.Frame.{Frame}

@@ -3,7 +3,7 @@
 use Prim.Native.Nat.{ℕ, zero, suc, _+_, _*_, _^_, _≤_, _<_}
 use native.Mathlib.Omega.{arith}
 use mathlib.Core.Path.{_≡_, refl, sym, _∙_, ap}
-use mathlib.Core.Bool.{Bool, true, cond, _&&_}
+use mathlib.Core.Bool.{Bool, true, _&&_}
 use mathlib.Core.List.{List, [], _∷_, _++_}
 use borrow.Author.Tests.{le-leb}
 use lib.Dec.{leb}
@@ -13,7 +13,7 @@ use Rattle.whole.proofs.Branch.{by-test}
 use Rattle.whole.proofs.Laws.{abs-neg, near-most, triangle}
 use Rattle.whole.proofs.Ring.{ring, exps}
 use Rattle.sines.proofs.Own.{Entries}
-use Rattle.steps.specs.Area.{small, doubled}
+use Rattle.steps.specs.Area.{small}
 use Rattle.steps.specs.Closure.{closes}
 use Rattle.steps.specs.Course.{Axis, north, east}
 use Rattle.steps.proofs.Areas.{doubled-most}

@@ -2,8 +2,8 @@
 use mathlib.Core.Bool.{cond}
 use mathlib.Core.List.{List, [], _∷_}
 use Prim.Native.Nat.{ℕ, suc, _+_, _-_, _*_, _/_, _%_}
-use lib.Dec.{ltb, leb}
-use lib.ListN.{length, getD}
+use lib.Dec.{ltb}
+use lib.ListN.{getD}
 use lib.IntN.{ℤ, pos, negsuc}
 
 pub data Width : Type 0 where
@@ -17,10 +17,6 @@ size four = 4
 unfoldable pub num : Width → List ℕ → ℕ → ℕ
 num two l k = getD l k 0 * 256 + getD l (suc k) 0
 num four l k = getD l k 0 * 16777216 + getD l (suc k) 0 * 65536 + getD l (suc (suc k)) 0 * 256 + getD l (suc (suc (suc k))) 0
-
--- the number at a place of a tape; 0 where there is none
-unfoldable pub fourAt : List ℕ → ℕ → ℕ
-fourAt tape at = cond (leb (at + 4) (length tape)) (num four tape at) 0
 
 -- and the bytes that spell a number
 unfoldable pub bytes : Width → ℕ → List ℕ

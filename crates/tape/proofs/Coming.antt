@@ -2,11 +2,11 @@
 -- states go by these cases.
 use Prim.Native.Nat.{ℕ, _+_, _-_, _≤_, _<_}
 use native.Mathlib.Omega.{arith}
-use mathlib.Core.Path.{_≡_, refl, sym, subst}
+use mathlib.Core.Path.{_≡_, refl}
 use mathlib.Core.List.{List}
 use mathlib.Core.Logic.{inl, inr}
 use mathlib.Core.Bool.{Bool, true, false, _&&_, _||_, and-eq-true-iff}
-use lib.Dec.{T, eqb, ltb, leb}
+use lib.Dec.{eqb, ltb, leb}
 use lib.IntN.{ℤ}
 use borrow.Author.Tests.{ltb-true, leb-true, eqb-true, ne-eqb}
 use Rattle.records.specs.Record.{rowKind, projectKind, startKind, closeKind}
@@ -16,10 +16,7 @@ use Rattle.tape.specs.Tape.{Step, Next, Stop, rowNext, projectNext, firs
 use Rattle.tape.specs.Passing.{InLine}
 use Rattle.tape.specs.declared.State.{State}
 use Rattle.whole.proofs.Branch.{by-test, either, left}
-use Rattle.tape.proofs.Walk.{passed}
-
-pub no : {A : Type 0} → false ≡ true → A
-no e = absurd (subst T (sym e) tt)
+use Rattle.tape.proofs.Walk.{no, passed}
 
 pub stopped : {A : Type 0} {u : State} {n : ℕ} → Next u ≡ Stop n → A
 stopped e = let z : _≡_ {A = ℕ} 0 1 = cc in absurd (omega arith)

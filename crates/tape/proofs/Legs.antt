@@ -4,21 +4,20 @@ use Prim.Native.Nat.{ℕ, zero, suc, _+_, _≤_, _<_}
 use native.Mathlib.Omega.{arith}
 use native.Mathlib.Nat.{add-zero}
 use mathlib.Core.Path.{_≡_, refl, sym, _∙_, ap}
-use mathlib.Core.Bool.{Bool, true, false, cond}
+use mathlib.Core.Bool.{true, false}
 use mathlib.Core.Logic.{_⊎_, inl, inr, ⊎-elim}
-use mathlib.Core.List.{List, [], _∷_, map}
-use lib.Dec.{eqb}
+use mathlib.Core.List.{List, [], _∷_}
 use lib.ListN.{length, getD, drop, length-drop, List·getD-map}
 use lib.Seq.{getD-drop, drop-drop}
 use borrow.Author.Tests.{le-leb, eqb-true}
 use Rattle.records.specs.Bytes.{four, num}
 use Rattle.records.specs.Record.{Rec, rowKind, projectKind, startKind, legKind, closeKind, fieldsOf, table, bodyOf}
 use Rattle.tape.specs.Tape.{isLeg, recordsOf}
-use Rattle.tape.specs.Fields.{Fields, number, pick, none, placeOf, turns, angleOf, distanceOf, picked, AllBytes, DoesRead}
+use Rattle.tape.specs.Fields.{pick, none, placeOf, turns, angleOf, distanceOf, picked, AllBytes, DoesRead}
 use Rattle.tape.specs.Fields.{fieldsOf as named}
 use Rattle.tape.specs.Legs.{sightAt, Rest, Legs, last, leg, Order, row, opens, LegAt}
 use Rattle.tape.proofs.Ordered.{order-of}
-use Rattle.tape.proofs.Picks.{pick-yes, pick-no, skips, place-on, place-here, place-skips, leg-turns, close-turns}
+use Rattle.tape.proofs.Picks.{pick-yes, pick-no, skips, place-on, place-here, leg-turns, close-turns}
 use Rattle.tape.proofs.Rest.{kind-there, whole-there, rest-start, rest-next, number-there}
 
 -- ---- the order: as many records turn as there are legs, and one more; the first of them are the legs

@@ -1,15 +1,15 @@
--- Numbers as bytes spell them, for `search`: read from the rest of a list, put together from halves, at any place of a tape, and meant with a sign.
+-- Numbers as bytes spell them, for `search`: read from the rest of a list, put together from halves, and meant with a sign.
 use Prim.Native.Nat.{ℕ, suc, _+_, _-_, _*_, _≤_, _<_}
 use native.Mathlib.Omega.{arith}
 use native.Mathlib.Numerals.{add-one}
 use native.Mathlib.Nat.{add-suc, add-zero}
 use mathlib.Core.Path.{_≡_, _∙_}
 use mathlib.Core.List.{List}
-use lib.ListN.{length, drop, getD}
+use lib.ListN.{drop, getD}
 use lib.IntN.{ℤ, pos, negℤ}
 use lib.Seq.{getD-drop}
-use borrow.Author.Tests.{le-leb, lt-leb, lt-ltb, le-ltb}
-use Rattle.records.specs.Bytes.{Width, two, four, num, fourAt, meant, twosComplement}
+use borrow.Author.Tests.{lt-ltb, le-ltb}
+use Rattle.records.specs.Bytes.{Width, two, four, num, meant, twosComplement}
 
 pub head-drop : (n : ℕ) (l : List ℕ) → getD (drop n l) 0 0 ≡ getD l n 0
 head-drop n l = rw (getD-drop, add-zero)
@@ -28,16 +28,6 @@ module _ (l : List ℕ) (k a b : ℕ) where
   pub num-four : a ≡ num two l k → b ≡ num two l (k + 2) → a * 65536 + b ≡ num four l k
   unfolding num
   num-four e f = let g : k + 2 ≡ suc (suc k) = omega arith in rw (e, f, g) (omega arith)
-
--- ---- at any place of a tape
-module _ (l : List ℕ) (k : ℕ) where
-  pub four-there : (n : ℕ) → n ≡ num four l k → k + 4 ≤ length l → n ≡ fourAt l k
-  unfolding fourAt
-  four-there n e h = rw (le-leb (k + 4) (length l) h) e
-
-  pub four-beyond : length l < k + 4 → 0 ≡ fourAt l k
-  unfolding fourAt
-  four-beyond h = rw (lt-leb (k + 4) (length l) h)
 
 -- ---- two bytes in two's complement, as the code tells them apart
 pub meant-plain : (v : ℤ) (n m : ℕ) → v ≡ pos n → n ≡ m → n < 32768 → v ≡ meant twosComplement two m

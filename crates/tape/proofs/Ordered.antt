@@ -3,7 +3,7 @@
 use Prim.Native.Nat.{ℕ, _+_, _≤_, _<_}
 use native.Mathlib.Omega.{arith}
 use mathlib.Core.Path.{_≡_, refl, sym, _∙_, ap}
-use mathlib.Core.Bool.{true, false}
+use mathlib.Core.Bool.{true}
 use mathlib.Core.Logic.{⊎-elim, inl, inr}
 use mathlib.Core.List.{List, [], _∷_}
 use lib.Dec.{eqb}
@@ -18,7 +18,7 @@ use Rattle.tape.specs.Legs.{Legs, last, leg, Order, row as a-row, opens}
 use Rattle.tape.specs.Passing.{InLine}
 use Rattle.tape.specs.declared.State.{State}
 use Rattle.tape.proofs.Coming.{In, Came, row, project, start as begins, leg as a-leg, close, came}
-use Rattle.tape.proofs.Picks.{pick-yes, pick-no, skips, only-first}
+use Rattle.tape.proofs.Picks.{pick-yes, skips, only-first}
 use Rattle.tape.proofs.Round.{lawful}
 use Rattle.tape.proofs.Rows.{Runs, done, more, runs}
 

@@ -12,8 +12,8 @@ use lib.Dec.{eqb, ltb}
 use lib.ListN.{length, getD, List·getD-eq-default}
 use borrow.Author.Tests.{lt-ltb, le-ltb, eq-eqb, ne-eqb, eqb-true}
 use Rattle.records.specs.Record.{bodyOf, fieldsOf, table}
-use Rattle.tape.specs.Tape.{atRows, afterProject, lineBegun, closed, isLeg, inPhase, Stop, mayCome, roomOf, start, readingOf}
-use Rattle.tape.specs.Passing.{cursor, onward, reached, past, pastRow, pastLeg, Passes, InLine, Rowed, Opened, Walked}
+use Rattle.tape.specs.Tape.{atRows, afterProject, lineBegun, closed, isLeg, Stop, mayCome, roomOf, start, readingOf}
+use Rattle.tape.specs.Passing.{cursor, onward, past, pastRow, pastLeg, Passes, InLine, Rowed, Opened, Walked}
 use Rattle.tape.specs.declared.State.{State}
 use Rattle.tape.specs.declared.Cursor.{Cursor}
 use Rattle.tape.specs.declared.Passed.{Passed}
@@ -226,13 +226,6 @@ module _ (s : List ℕ) (r : Passed) (rowed : Rowed s r) where
         start-read b e z = record { same = project-read ∙ start .same ∙ rw (z, e); begun = λ y. rw e (inl refl) }
 
 -- ---- and the whole
-module _ (s : List ℕ) (c : Cursor) (l : Passed) (walked : Walked s c l) (last : Cursor) (on : last ≡ l .cursor) where
-  pub line-last : InLine (last .st)
-  line-last = rw on (walked .line)
-
-  pub no-leg : l .number ≡ 0 → isLeg (getD s (last .at) 0) ≡ false
-  no-leg z = rw on (walked .none z)
-
 module _ (s : List ℕ) (r : Passed) (opened : Opened s r) (c : Cursor) (is : c ≡ r .cursor) where
   pub opening-refused : (r .number ≡ 0 → ⊥) → Refused (r .number) (c .at) ≡ readingOf s
   opening-refused z = rw is (sym (opened .same ∙ rw (ne-eqb (r .number) 0 z)))

@@ -13,7 +13,7 @@ use lib.ListN.{length, getD, drop, length-drop, List·getD-eq-default}
 use borrow.Author.Tests.{lt-ltb, le-ltb, eq-eqb, ne-eqb, eqb-true, le-leb, lt-leb}
 use Rattle.records.specs.Bytes.{two, four, num, meant, twosComplement}
 use Rattle.records.specs.Record.{bodyOf, numbersOf, fieldsOf, table, goodOf}
-use Rattle.tape.specs.Tape.{atRows, afterProject, lineBegun, afterLeg, closed, isLeg, inPhase, withRow, withLeg, Step, Next, Stop, mayCome, roomOf, rowNext, projectNext, afterOf, takeOf, judge, stepOf}
+use Rattle.tape.specs.Tape.{afterProject, lineBegun, afterLeg, closed, isLeg, inPhase, withRow, withLeg, Step, Next, Stop, mayCome, roomOf, rowNext, projectNext, afterOf, takeOf, judge, stepOf}
 use Rattle.tape.specs.Passing.{cursor, onward, pastRow, pastLeg, InLine, Passes}
 use Rattle.tape.specs.declared.State.{State}
 use Rattle.tape.specs.declared.Cursor.{Cursor}

@@ -1,8 +1,8 @@
 -- Picking: what is picked of a record and the rest, and the place of the first that is picked.
-use Prim.Native.Nat.{ℕ, zero, suc, _+_, _≤_, _<_}
+use Prim.Native.Nat.{ℕ, zero, suc, _+_, _<_}
 use native.Mathlib.Omega.{arith}
 use mathlib.Core.Path.{_≡_, refl, sym, _∙_}
-use mathlib.Core.Bool.{Bool, true, false, cond, _||_}
+use mathlib.Core.Bool.{Bool, true, false}
 use mathlib.Core.List.{List, [], _∷_}
 use lib.Dec.{eqb}
 use lib.ListN.{length, getD}
@@ -11,7 +11,6 @@ use Rattle.records.specs.Record.{Rec, closeKind, bodyOf, goodOf}
 use Rattle.tape.specs.Tape.{isLeg}
 use Rattle.tape.specs.Fields.{pick, none, only, placeOf, turns}
 use Rattle.tape.specs.Legs.{Good}
-use Rattle.tape.proofs.Walk.{no}
 
 module _ (p : ℕ → Bool) (r : Rec) (rs : List Rec) where
   pub pick-yes : p (r .kind) ≡ true → pick p (r ∷ rs) ≡ r ∷ pick p rs
@@ -41,18 +40,6 @@ module _ (p : ℕ → Bool) (k : ℕ) (r : Rec) (rs : List Rec) (is : r .kind �
 -- the one of a kind, where it comes first
 pub only-first : (k : ℕ) (r : Rec) (rs : List Rec) → r .kind ≡ k → only k (r ∷ rs) ≡ r
 only-first k r rs e = rw (pick-yes (eqb k) r rs (eq-eqb k (r .kind) (sym e)))
-
--- ---- picked from what was picked already
-pub pick-within : (p q : ℕ → Bool) → ((k : ℕ) → p k ≡ true → q k ≡ true) → (rs : List Rec) → pick p (pick q rs) ≡ pick p rs
-pick-within p q h [] = unfold pick in refl
-pick-within p q h (r ∷ rs) = go (p (r .kind)) (q (r .kind)) refl refl (pick-within p q h rs)
-  where
-    go : (a b : Bool) → p (r .kind) ≡ a → q (r .kind) ≡ b → pick p (pick q rs) ≡ pick p rs
-        → pick p (pick q (r ∷ rs)) ≡ pick p (r ∷ rs)
-    go true true d e ih = rw (pick-yes q r rs e, pick-yes p r (pick q rs) d, pick-yes p r rs d, ih)
-    go true false d e ih = no (sym e ∙ h (r .kind) d)
-    go false true d e ih = rw (pick-yes q r rs e, pick-no p r (pick q rs) d, pick-no p r rs d, ih)
-    go false false d e ih = rw (pick-no q r rs e, pick-no p r rs d, ih)
 
 -- ---- legs turn, and so does the close, which is no leg
 pub leg-turns : (k : ℕ) → isLeg k ≡ true → turns k ≡ true

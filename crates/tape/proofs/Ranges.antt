@@ -1,9 +1,9 @@
 -- The fields of a tape that reads are in range: a record that is picked is one of the tape's, and so its numbers are in the ranges of its
 -- kind; the order says that there is one to pick; and a row has the latitude of the project.
-use Prim.Native.Nat.{ℕ, zero, suc, _+_, _≤_, _<_}
+use Prim.Native.Nat.{ℕ, suc, _≤_, _<_}
 use native.Mathlib.Omega.{arith}
 use mathlib.Core.Path.{_≡_, refl, sym, _∙_}
-use mathlib.Core.Bool.{Bool, true, false, _&&_, _||_, and-eq-true-iff}
+use mathlib.Core.Bool.{Bool, true, false, _&&_, and-eq-true-iff}
 use mathlib.Core.Logic.{⊎-elim}
 use mathlib.Core.List.{List, [], _∷_}
 use lib.Dec.{eqb}
@@ -21,7 +21,7 @@ use Rattle.tape.specs.Fields.{fieldsOf as named}
 use Rattle.tape.specs.Legs.{Good, Legs, last, leg, Order, row, opens}
 use Rattle.tape.proofs.Legs.{order-long}
 use Rattle.tape.proofs.Ordered.{order-of}
-use Rattle.tape.proofs.Picks.{pick-yes, pick-no, skips, Picked, picked-at}
+use Rattle.tape.proofs.Picks.{pick-yes, pick-no, Picked, picked-at}
 use Rattle.tape.proofs.Rest.{good-records}
 use Rattle.tape.proofs.Round.{lawful}
 use Rattle.tape.proofs.Rows.{Has, rows-mean, runs}

@@ -3,14 +3,14 @@
 use Prim.Native.Nat.{ℕ, zero, suc, _+_, _≤_, _<_}
 use native.Mathlib.Omega.{arith}
 use native.Mathlib.Nat.{add-zero, add-assoc}
-use mathlib.Core.Path.{_≡_, refl, sym, _∙_, ap}
+use mathlib.Core.Path.{_≡_, sym, _∙_, ap}
 use mathlib.Core.Bool.{true}
 use mathlib.Core.List.{List, [], _∷_, _++_}
 use lib.IntN.{pos}
 use lib.ListN.{length, getD, drop, length-append, length-drop}
 use lib.Seq.{drop-drop, drop-at}
-use Rattle.records.specs.Bytes.{four, size, num, unsigned, meant}
-use Rattle.records.specs.Record.{Field, Rec, fieldsOf, total, numbers, numbersOf, bodyOf, bytesOf}
+use Rattle.records.specs.Bytes.{size, num, unsigned, meant}
+use Rattle.records.specs.Record.{Field, Rec, fieldsOf, numbers, numbersOf, bodyOf, bytesOf}
 use Rattle.tape.specs.Fields.{signed, number, AllBytes, DoesRead}
 use Rattle.tape.specs.Legs.{Good, Rest, offset, fieldAt}
 use Rattle.tape.specs.Tape.{judge, start, recordsOf, tapeOf, runOf}

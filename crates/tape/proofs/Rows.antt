@@ -20,7 +20,8 @@ use Rattle.tape.specs.declared.Reading.{Reading}
 use Rattle.tape.specs.declared.Reading.the-variants.{Reads}
 use Rattle.whole.proofs.Branch.{cond-and, by-test}
 use Rattle.tape.proofs.Round.{reads-next}
-use Rattle.tape.proofs.Coming.{In, Came, came, no, stopped}
+use Rattle.tape.proofs.Walk.{no}
+use Rattle.tape.proofs.Coming.{In, Came, came, stopped}
 use Rattle.tape.proofs.Coming as by
 
 -- the records rs, each taken, lead from st to st″

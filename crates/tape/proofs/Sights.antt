@@ -4,7 +4,7 @@ use native.Mathlib.Omega.{arith}
 use mathlib.Core.Path.{_≡_}
 use mathlib.Core.List.{List}
 use lib.ListN.{length, getD}
-use borrow.Author.Tests.{le-leb, lt-leb, eq-eqb, ne-eqb}
+use borrow.Author.Tests.{le-leb, lt-leb, ne-eqb}
 use Rattle.records.specs.Bytes.{four, num}
 use Rattle.records.specs.Record.{bodyOf, fieldsOf, table}
 use Rattle.tape.specs.Legs.{sightAt, noSight}

@@ -4,7 +4,6 @@ use Prim.Native.Nat.{ℕ, zero, suc, _+_, _-_, _*_, _≤_, _<_}
 use native.Mathlib.Omega.{arith}
 use mathlib.Core.Path.{_≡_, refl, sym, _∙_, ap}
 use mathlib.Core.Bool.{true, false}
-use mathlib.Core.Logic.{⊎-elim}
 use mathlib.Core.List.{List, [], _∷_}
 use lib.Dec.{eqb}
 use lib.IntN.{ℤ}
@@ -13,19 +12,18 @@ use borrow.Author.Tests.{eqb-true, eq-eqb, ne-eqb}
 use Rattle.whole.specs.declared.Whole.{Whole}
 use Rattle.records.specs.Bytes.{two, four, num, meant, unsigned, twosComplement}
 use Rattle.records.specs.Record.{Rec, rowKind, projectKind, startKind, legKind, closeKind, fieldsOf, table, bodyOf}
-use Rattle.tape.specs.Tape.{lineBegun, afterLeg, atRows, closed, isLeg, start, recordsOf, readingOf, told}
-use Rattle.tape.specs.Fields.{signed, number, pick, only, placeOf, isRow, scaleOf, picked, controlOf, takenIf, takenOf, AllBytes, ReadsTo, DoesRead}
+use Rattle.tape.specs.Tape.{atRows, closed, isLeg, start, recordsOf, readingOf, told}
+use Rattle.tape.specs.Fields.{signed, number, pick, only, placeOf, isRow, scaleOf, picked, controlOf, takenIf, takenOf, ReadsTo, DoesRead}
 use Rattle.tape.specs.Fields.{fieldsOf as named}
 use Rattle.tape.specs.Legs.{offset, fieldAt, Rest, Legs, last, leg, Order, row as a-row, opens}
 use Rattle.tape.specs.declared.State.{State}
-use Rattle.tape.specs.declared.Point.{Point}
 use Rattle.tape.specs.declared.Control.{Control}
 use Rattle.tape.specs.declared.Reading.{Reading}
 use Rattle.tape.specs.declared.Reading.the-variants.{Refused, Reads}
 use Rattle.tape.specs.declared.Taken.the-variants as taken
 use Rattle.tape.proofs.Coming as by
 use Rattle.tape.proofs.Coming.{Came, came}
-use Rattle.tape.proofs.Ordered.{Ordered, ordered, order-of, no-rows}
+use Rattle.tape.proofs.Ordered.{ordered, order-of, no-rows}
 use Rattle.tape.proofs.Picks.{pick-yes, skips, place-on, place-here, place-skips, only-first}
 use Rattle.tape.proofs.Rest.{whole-there, rest-start, rest-next, last-there, value-there, number-there}
 use Rattle.tape.proofs.Round.{lawful}
