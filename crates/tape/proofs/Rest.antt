@@ -9,10 +9,10 @@ use mathlib.Core.List.{List, [], _∷_, _++_}
 use lib.IntN.{pos}
 use lib.ListN.{length, getD, drop, length-append, length-drop}
 use lib.Seq.{drop-drop, drop-at}
-use Rattle.records.specs.Bytes.{size, num, unsigned, meant}
+use Rattle.records.specs.Bytes.{two, size, num, unsigned, meant}
 use Rattle.records.specs.Record.{Field, Rec, fieldsOf, numbers, numbersOf, bodyOf, bytesOf}
 use Rattle.tape.specs.Fields.{signed, number, AllBytes, DoesRead}
-use Rattle.tape.specs.Legs.{Good, Rest, offset, fieldAt}
+use Rattle.tape.specs.Legs.{Good, Rest}
 use Rattle.tape.specs.Tape.{judge, start, recordsOf, tapeOf, runOf}
 use Rattle.tape.specs.declared.State.{State}
 use Rattle.tape.specs.declared.Reading.the-variants.{Reads}
@@ -74,7 +74,17 @@ last-there tape at r h =
     let n = rest-next tape at r [] h in
     omega (arith, whole-there tape at r [] h, ap length (n .is), length-drop (at + 1 + bodyOf (r .kind)) tape)
 
--- ---- a number of any field, of any kind
+-- ---- where a number of a record stands: so many bytes into its body; and its field
+abbrev pub offset : List Field → ℕ → ℕ
+offset [] i = 0
+offset (f ∷ fs) zero = 0
+offset (f ∷ fs) (suc i) = size (f .width) + offset fs i
+
+abbrev pub fieldAt : List Field → ℕ → Field
+fieldAt fs i =
+    getD fs i (record { width = two; coding = unsigned; low = pos 0; high = pos 0 })
+
+-- a number of any field, of any kind
 value-in : (fs : List Field) (i : ℕ) (l : List ℕ) (k : ℕ) → i < length fs
     → let f = fieldAt fs i in getD (numbers fs l k) i (pos 0) ≡ meant (f .coding) (f .width) (num (f .width) l (k + offset fs i))
 value-in [] i l k h = absurd (omega arith)

@@ -15,7 +15,7 @@ use Rattle.records.specs.Record.{Rec, rowKind, projectKind, startKind, legKind,
 use Rattle.tape.specs.Tape.{atRows, closed, isLeg, start, recordsOf, readingOf, told}
 use Rattle.tape.specs.Fields.{signed, number, pick, only, placeOf, isRow, scaleOf, picked, controlOf, takenIf, takenOf, ReadsTo, DoesRead}
 use Rattle.tape.specs.Fields.{fieldsOf as named}
-use Rattle.tape.specs.Legs.{offset, fieldAt, Rest, Legs, last, leg, Order, row as a-row, opens}
+use Rattle.tape.specs.Legs.{Rest, Legs, last, leg, Order, row as a-row, opens}
 use Rattle.tape.specs.declared.State.{State}
 use Rattle.tape.specs.declared.Control.{Control}
 use Rattle.tape.specs.declared.Reading.{Reading}
@@ -25,7 +25,7 @@ use Rattle.tape.proofs.Coming as by
 use Rattle.tape.proofs.Coming.{Came, came}
 use Rattle.tape.proofs.Ordered.{ordered, order-of, no-rows}
 use Rattle.tape.proofs.Picks.{pick-yes, skips, place-on, place-here, place-skips, only-first}
-use Rattle.tape.proofs.Rest.{whole-there, rest-start, rest-next, last-there, value-there, number-there}
+use Rattle.tape.proofs.Rest.{offset, fieldAt, whole-there, rest-start, rest-next, last-there, value-there, number-there}
 use Rattle.tape.proofs.Round.{lawful}
 use Rattle.tape.proofs.Rows.{Runs, done, more, runs}
 

@@ -2,12 +2,11 @@
 use mathlib.Core.Path.{_≡_}
 use mathlib.Core.Bool.{true, cond}
 use mathlib.Core.List.{List, [], _∷_}
-use Prim.Native.Nat.{ℕ, zero, suc, _+_}
+use Prim.Native.Nat.{ℕ, _+_}
 use lib.Dec.{leb}
-use lib.IntN.{pos}
 use lib.ListN.{length, getD, drop}
-use Rattle.records.specs.Bytes.{two, four, size, num, unsigned}
-use Rattle.records.specs.Record.{Field, Rec, rowKind, projectKind, startKind, legKind, closeKind, bodyOf, goodOf}
+use Rattle.records.specs.Bytes.{four, num}
+use Rattle.records.specs.Record.{Rec, rowKind, projectKind, startKind, legKind, closeKind, bodyOf, goodOf}
 use Rattle.tape.specs.Tape.{isLeg, recordsOf, tapeOf}
 use Rattle.tape.specs.Fields.{pick, turns}
 use Rattle.tape.specs.declared.Sight.{Sight}
@@ -58,13 +57,3 @@ pub record LegAt (tape : List ℕ) (k at : ℕ) : Type 0 where
   pub rest : Rest tape at rs
   pub legs : Legs rs
   pub less : pick turns rs ≡ drop k (pick turns (recordsOf tape))
-
--- ---- where a number of a record stands: so many bytes into its body; and its field
-abbrev pub offset : List Field → ℕ → ℕ
-offset [] i = 0
-offset (f ∷ fs) zero = 0
-offset (f ∷ fs) (suc i) = size (f .width) + offset fs i
-
-abbrev pub fieldAt : List Field → ℕ → Field
-fieldAt fs i =
-    getD fs i (record { width = two; coding = unsigned; low = pos 0; high = pos 0 })
