@@ -3,7 +3,7 @@
 use Prim.Native.Nat.{ℕ, _+_, _≤_, _<_}
 use native.Mathlib.Omega.{arith}
 use mathlib.Core.Path.{_≡_, refl, sym, _∙_, ap}
-use mathlib.Core.Bool.{true}
+use mathlib.Core.Bool.{true, false}
 use mathlib.Core.Logic.{⊎-elim, inl, inr}
 use mathlib.Core.List.{List, [], _∷_}
 use lib.Dec.{eqb}
@@ -21,14 +21,22 @@ use Rattle.tape.proofs.Coming.{In, Came, row, project, start as begins,
 use Rattle.tape.proofs.Picks.{pick-yes, skips, only-first}
 use Rattle.tape.proofs.Round.{lawful}
 use Rattle.tape.proofs.Rows.{Runs, done, more, runs}
+use Rattle.tape.proofs.Walk.{no}
+
+-- a state in the line is in no other phase
+not-in : (st : State) {A : Type 0} {p : ℕ} → InLine st → st .phase ≡ p → eqb p lineBegun ≡ false
+    → eqb p afterLeg ≡ false → A
+not-in st h e a b =
+    ⊎-elim (λ (x : st .phase ≡ lineBegun). no (sym a ∙ eq-eqb _ _ (sym e ∙ x)))
+    (λ (x : st .phase ≡ afterLeg). no (sym b ∙ eq-eqb _ _ (sym e ∙ x)))
+    h
 
 -- ---- after the close nothing comes
 no-more : {st u : State} {k : ℕ} {vs : List ℤ} → Came st k vs u → st .phase ≡ closed → ⊥
 no-more (row k p f n e) h = omega arith
 no-more (project k p i e) h = omega arith
 no-more (begins k p e) h = omega arith
-no-more (a-leg k p f e) h =
-    ⊎-elim (λ (x : _≡_ {A = ℕ} _ lineBegun). omega arith) (λ (x : _≡_ {A = ℕ} _ afterLeg). omega arith) p
+no-more {st} (a-leg k p f e) h = not-in st p h refl refl
 no-more (close k p e) h = omega arith
 
 ends : {st u : State} {rs : List Rec} → Runs st rs u → st .phase ≡ closed → (rs ≡ []) × (st ≡ u)
@@ -68,23 +76,18 @@ module _ (st u end : State) (r : Rec) (rs : List Rec) where
         next = sym next;
       })
 
--- a state in a line is in no other phase
-not-in : (st : State) {A : Type 0} {p : ℕ} → InLine st → st .phase ≡ p → p < lineBegun → A
-not-in st h e low =
-    absurd (⊎-elim (λ (x : _≡_ {A = ℕ} _ lineBegun). omega arith) (λ (x : _≡_ {A = ℕ} _ afterLeg). omega arith) h)
-
 lined-by : {st u end : State} {r : Rec} {rs : List Rec} → Came st (r .kind) (r .values) u → InLine st → Runs u rs end
     → (InLine u → Lined u rs end) → Lined st (r ∷ rs) end
 lined-by {st} {u} {end} {r} {rs} (a-leg k p f e) h run ih =
     line-leg st u end r rs k f (rw e) (rw e) (rw e) (ih (inr (rw e)))
 lined-by {st} {u} {end} {r} {rs} (close k p e) h run ih =
     let i = ends run (rw e) in line-close st u end r rs k (rw e) (rw e) (rw e) (i .0) (i .1)
-lined-by {st} (row k p f n e) h run ih = not-in st h p (omega arith)
-lined-by {st} (project k p i e) h run ih = not-in st h p (omega arith)
-lined-by {st} (begins k p e) h run ih = not-in st h p (omega arith)
+lined-by {st} (row k p f n e) h run ih = not-in st h p refl refl
+lined-by {st} (project k p i e) h run ih = not-in st h p refl refl
+lined-by {st} (begins k p e) h run ih = not-in st h p refl refl
 
 lined : {st end : State} {rs : List Rec} → Runs st rs end → end .phase ≡ closed → InLine st → Lined st rs end
-lined done e h = absurd (⊎-elim (λ (x : _≡_ {A = ℕ} _ lineBegun). omega arith) (λ (x : _≡_ {A = ℕ} _ afterLeg). omega arith) h)
+lined {st} done e h = not-in st h e refl refl
 lined (more {st} {st′} {r = r} e p) f h = lined-by (came st st′ (r .kind) true (r .values) e) h p (lined p f)
 
 -- ---- from the start on a leg comes, and from the project on the start
@@ -123,8 +126,7 @@ begun-by : {st u end : State} {r : Rec} {rs : List Rec} → Came st (r .kind) (r
     → (u .phase ≡ lineBegun → Started u rs end) → Begun st (r ∷ rs) end
 begun-by {u = u} {r = r} {rs} (begins k p e) h i =
     record { s = r; ss = rs; is = refl; kind = k; u = u; same = e; started = i (rw e) }
-begun-by (a-leg k p f e) h i =
-    absurd (⊎-elim (λ (x : _≡_ {A = ℕ} _ lineBegun). omega arith) (λ (x : _≡_ {A = ℕ} _ afterLeg). omega arith) p)
+begun-by {st} (a-leg k p f e) h i = not-in st p h refl refl
 begun-by (close k p e) h i = absurd (omega arith)
 begun-by (row k p f n e) h i = absurd (omega arith)
 begun-by (project k p n e) h i = absurd (omega arith)
@@ -193,7 +195,7 @@ ordered-by : {st u end : State} {r : Rec} {rs : List Rec} → Came st (r .kind) 
 ordered-by {st} {u} {end} {r} {rs} (row k p f n e) h rows opened = order-row st u end r rs k n e (rows (rw e))
 ordered-by {st} {u} {end} {r} {rs} (project k p i e) h rows opened = order-opens st u end r rs k i e (opened (rw e))
 ordered-by (begins k p e) h rows opened = absurd (omega arith)
-ordered-by {st} (a-leg k p f e) h rows opened = not-in st p h (omega arith)
+ordered-by {st} (a-leg k p f e) h rows opened = not-in st p h refl refl
 ordered-by (close k p e) h rows opened = absurd (omega arith)
 
 pub ordered : {st end : State} {rs : List Rec} → Runs st rs end → end .phase ≡ closed → st .phase ≡ atRows → Ordered st rs end
