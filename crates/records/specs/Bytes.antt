@@ -1,4 +1,5 @@
--- Paper 01, "The tape": numbers of two and four bytes, "unsigned, high byte first, except the elevation, which is two's complement".
+-- Paper 01, "The tape": numbers of two and four bytes, "unsigned, high byte first, except the
+-- elevation, which is two's complement".
 use mathlib.Core.Bool.{cond}
 use mathlib.Core.List.{List, [], _∷_}
 use Prim.Native.Nat.{ℕ, suc, _+_, _-_, _*_, _/_, _%_}
@@ -16,7 +17,9 @@ size four = 4
 -- the number that the bytes from place k of l on spell
 unfoldable pub num : Width → List ℕ → ℕ → ℕ
 num two l k = getD l k 0 * 256 + getD l (suc k) 0
-num four l k = getD l k 0 * 16777216 + getD l (suc k) 0 * 65536 + getD l (suc (suc k)) 0 * 256 + getD l (suc (suc (suc k))) 0
+num four l k =
+    getD l k 0 * 16777216 + getD l (suc k) 0 * 65536 + getD l (suc (suc k)) 0 * 256
+    + getD l (suc (suc (suc k))) 0
 
 -- and the bytes that spell a number
 unfoldable pub bytes : Width → ℕ → List ℕ

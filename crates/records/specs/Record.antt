@@ -1,13 +1,19 @@
--- Paper 01, "The tape": the table of kinds as data, and from it the length, the fields, the ranges and the bytes of a record.
+-- Paper 01, "The tape": the table of kinds as data, and from it the length, the fields, the ranges
+-- and the bytes of a record.
 use mathlib.Core.Bool.{Bool, true, false, cond, _&&_}
 use mathlib.Core.List.{List, [], _∷_, _++_}
-use Prim.Native.Nat.{ℕ, _+_}
+use Prim.Native.Nat.{ℕ, _+_, _-_}
 use lib.Dec.{eqb}
 use lib.IntN.{ℤ, pos, negℤ}
 use lib.Signed.{leZ}
+use Rattle.answer.specs.Limit.{leastFactor, mostFactor, leastDistance, mostDistance}
+use Rattle.answer.specs.Limit.{lowest, highest, mostCoordinate}
+use Rattle.minutes.specs.Entry.{lastMinute}
+use Rattle.minutes.specs.Quadrant.{circle}
 use Rattle.records.specs.declared.Record.{Record}
 use Rattle.records.specs.declared.Record.the-variants as kinds
-use Rattle.records.specs.Bytes.{Width, two, four, size, num, bytes, Coding, unsigned, twosComplement, meant, written}
+use Rattle.records.specs.Bytes.{Width, two, four, size, num, bytes}
+use Rattle.records.specs.Bytes.{Coding, unsigned, twosComplement, meant, written}
 
 -- ---- "One byte of kind": the five kinds
 abbrev pub rowKind : ℕ
@@ -35,23 +41,31 @@ pub record Field : Type 0 where
 abbrev plain : Width → ℕ → ℕ → Field
 plain w low high = record { width = w; coding = unsigned; low = pos low; high = pos high }
 
+-- "minute of latitude (2 bytes) 0..5,400", and "mean latitude in minutes (2) 0..5,400"
 abbrev minute : Field
-minute = plain two 0 5400
+minute = plain two 0 lastMinute
 
 abbrev factor : Field
-factor = plain four 9990000 10010000
+factor = plain four leastFactor mostFactor
 
 abbrev elevation : Field
-elevation = record { width = two; coding = twosComplement; low = negℤ (pos 1000); high = pos 20000 }
+elevation =
+    record {
+      width = two;
+      coding = twosComplement;
+      low = negℤ (pos lowest);
+      high = pos highest;
+    }
 
 abbrev coordinate : Field
-coordinate = plain four 0 1000000000
+coordinate = plain four 0 mostCoordinate
 
+-- "angle right (4) 0..12,959,999", and an azimuth to a mark: below the circle
 abbrev angle : Field
-angle = plain four 0 12959999
+angle = plain four 0 (circle - 1)
 
 abbrev distance : Field
-distance = plain four 1000 20000000
+distance = plain four leastDistance mostDistance
 
 -- ---- the table of kinds
 pub record Kind : Type 0 where
@@ -78,14 +92,16 @@ look (r ∷ rows) k = cond (eqb k (r .kind)) (r .fields) (look rows k)
 unfoldable pub fieldsOf : ℕ → List Field
 fieldsOf k = look table k
 
--- ---- of a record of a kind: the length of its body, its numbers, whether they are in range, its bytes
+-- ---- of a record of a kind: the length of its body, its numbers, whether they are in range, and
+-- its bytes
 abbrev pub total : List Field → ℕ
 total [] = 0
 total (f ∷ fs) = size (f .width) + total fs
 
 abbrev pub numbers : List Field → List ℕ → ℕ → List ℤ
 numbers [] l k = []
-numbers (f ∷ fs) l k = meant (f .coding) (f .width) (num (f .width) l k) ∷ numbers fs l (k + size (f .width))
+numbers (f ∷ fs) l k =
+    meant (f .coding) (f .width) (num (f .width) l k) ∷ numbers fs l (k + size (f .width))
 
 abbrev pub inRanges : List Field → List ℤ → Bool
 inRanges [] [] = true

@@ -1,4 +1,5 @@
-// The table of kinds in code: the length of each kind's body, and the ranges of its fields. Reader and writer share them.
+// The table of kinds in code: the length of each kind's body, and the ranges of its fields. The
+// reader and the writer of a tape share them.
 use crate::CLOSE;
 use crate::CLOSE_BODY;
 use crate::LEG;
@@ -10,11 +11,26 @@ use crate::ROW_BODY;
 use crate::Record;
 use crate::START;
 use crate::START_BODY;
+use answer::limit::HIGHEST;
+use answer::limit::LEAST_DISTANCE;
+use answer::limit::LEAST_FACTOR;
+use answer::limit::LOWEST;
+use answer::limit::MOST_COORDINATE;
+use answer::limit::MOST_DISTANCE;
+use answer::limit::MOST_FACTOR;
+use minutes::quadrant::CIRCLE;
 use whole::Whole;
 ghost use mathlib.Core.Path.{_≡_};
 ghost use mathlib.Core.List.{[], _∷_};
 ghost use lib.IntN.{pos};
+ghost use Rattle.records.specs.Record.{rowKind, projectKind, startKind, legKind, closeKind};
 ghost use Rattle.records.specs.Record.{bodyOf, goodOf, recOf, goodRecord};
+
+// A minute of a row or of a latitude is 0..5,400, as those of the table of sines are.
+const LAST_MINUTE: u32 = minutes::LAST_MINUTE as u32;
+
+// An angle or an azimuth is below the circle: at most 12,959,999 tenths of a second.
+const LAST_ANGLE: u32 = CIRCLE - 1;
 
 pub fn body_len(kind: u8) -> usize
     ensures { λ r. ⌜ r ≡ bodyOf kind ⌝ }
@@ -30,57 +46,58 @@ pub fn body_len(kind: u8) -> usize
 }
 
 pub fn row_good(minute: u32, factor: u32) -> bool
-    ensures { λ r. ⌜ r ≡ goodOf 5 (pos minute ∷ pos factor ∷ []) ⌝ }
+    ensures { λ r. ⌜ r ≡ goodOf rowKind (pos minute ∷ pos factor ∷ []) ⌝ }
 {
-    if 5400 < minute {
+    if LAST_MINUTE < minute {
         return false;
     }
-    if factor < 9990000 {
+    if factor < LEAST_FACTOR {
         return false;
     }
-    factor <= 10010000
+    factor <= MOST_FACTOR
 }
 
 pub fn project_good(latitude: u32, elevation: Whole) -> bool
-    ensures { λ r. ⌜ r ≡ goodOf 1 (pos latitude ∷ elevation .v ∷ []) ⌝ }
+    ensures { λ r. ⌜ r ≡ goodOf projectKind (pos latitude ∷ elevation .v ∷ []) ⌝ }
 {
-    if 5400 < latitude {
+    if LAST_MINUTE < latitude {
         return false;
     }
     if elevation.below_zero() {
-        return elevation.size() <= 1000;
+        return elevation.size() <= LOWEST;
     }
-    elevation.size() <= 20000
+    elevation.size() <= HIGHEST
 }
 
 pub fn start_good(northing: u32, easting: u32, mark: u32) -> bool
-    ensures { λ r. ⌜ r ≡ goodOf 2 (pos northing ∷ pos easting ∷ pos mark ∷ []) ⌝ }
+    ensures { λ r. ⌜ r ≡ goodOf startKind (pos northing ∷ pos easting ∷ pos mark ∷ []) ⌝ }
 {
-    if 1000000000 < northing {
+    if MOST_COORDINATE < northing {
         return false;
     }
-    if 1000000000 < easting {
+    if MOST_COORDINATE < easting {
         return false;
     }
-    mark <= 12959999
+    mark <= LAST_ANGLE
 }
 
 pub fn leg_good(angle: u32, distance: u32) -> bool
-    ensures { λ r. ⌜ r ≡ goodOf 3 (pos angle ∷ pos distance ∷ []) ⌝ }
+    ensures { λ r. ⌜ r ≡ goodOf legKind (pos angle ∷ pos distance ∷ []) ⌝ }
 {
-    if 12959999 < angle {
+    if LAST_ANGLE < angle {
         return false;
     }
-    if distance < 1000 {
+    if distance < LEAST_DISTANCE {
         return false;
     }
-    distance <= 20000000
+    distance <= MOST_DISTANCE
 }
 
 pub fn close_good(angle: u32, northing: u32, easting: u32, mark: u32) -> bool
-    ensures { λ r. ⌜ r ≡ goodOf 4 (pos angle ∷ pos northing ∷ pos easting ∷ pos mark ∷ []) ⌝ }
+    ensures { λ r. ⌜ r ≡ goodOf closeKind
+        (pos angle ∷ pos northing ∷ pos easting ∷ pos mark ∷ []) ⌝ }
 {
-    if 12959999 < angle {
+    if LAST_ANGLE < angle {
         return false;
     }
     start_good(northing, easting, mark)

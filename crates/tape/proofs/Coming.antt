@@ -11,7 +11,8 @@ use lib.IntN.{ℤ}
 use borrow.Author.Tests.{ltb-true, leb-true, eqb-true, ne-eqb}
 use Rattle.records.specs.Record.{rowKind, projectKind, startKind, closeKind}
 use Rattle.tape.specs.Tape.{atRows, afterProject, lineBegun, afterLeg, closed, isLeg}
-use Rattle.tape.specs.Tape.{mostRows, mostLegs, mayCome, roomOf, inPhase, withRow, withLeg}
+use Rattle.answer.specs.Limit.{mostLegs}
+use Rattle.tape.specs.Tape.{mostRows, mayCome, roomOf, inPhase, withRow, withLeg}
 use Rattle.tape.specs.Tape.{Step, Next, Stop, rowNext, projectNext, firstOf, afterOf, judge}
 use Rattle.tape.specs.Passing.{InLine}
 use Rattle.tape.specs.declared.State.{State}

@@ -15,7 +15,8 @@ use borrow.Author.Tests.{lt-ltb, eqb-true}
 use Rattle.records.specs.Bytes.{Width, two, four, size, num}
 use Rattle.records.specs.Record.{Field, table, fieldsOf, total, numbers, numbersOf, bodyOf}
 use Rattle.records.specs.Record.{legKind}
-use Rattle.tape.specs.Tape.{mostRows, mostLegs, atRows, afterProject, lineBegun, afterLeg}
+use Rattle.answer.specs.Limit.{mostLegs}
+use Rattle.tape.specs.Tape.{mostRows, atRows, afterProject, lineBegun, afterLeg}
 use Rattle.tape.specs.Tape.{Step, Next, Stop, isLeg, mayCome, roomOf, takeOf, judge, stepOf}
 use Rattle.tape.specs.Tape.{onStep, walk, start, readingOf}
 use Rattle.tape.specs.Passing.{InLine}

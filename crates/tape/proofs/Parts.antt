@@ -79,6 +79,7 @@ module _ (s : List ℕ) (end : ℕ) (c : Cursor) (a : Along s end c) where
 
   -- past one more
   pub row-run : (n : ℕ) (d : Cursor) → Passes s c n (pastRow s c) → n ≡ 0 → d ≡ pastRow s c → Along s end d
+  unfolding bodyOf fieldsOf table
   row-run n d h z e =
       rw e
       (record {

@@ -176,6 +176,7 @@ module _ (s : List ℕ) (c : Cursor) where
 
   -- the cursor after it, as the code makes it
   pub past-row-is : (m : ℕ) → m ≡ num two s (at + 1) → cursor (at + 7) (withRow st m) ≡ pastRow s c
+  unfolding bodyOf fieldsOf table
   past-row-is m e = rw e
 
   -- ---- the project

@@ -9,7 +9,8 @@ use mathlib.Core.Bool.{Bool, cond}
 use lib.Dec.{eqb, ltb}
 use borrow.Author.Needs.{needs}
 use Rattle.records.specs.Record.{bodyOf, rowKind}
-use Rattle.tape.specs.Tape.{mostRows, mostLegs, closed, isLeg, roomOf, rowNext, projectNext}
+use Rattle.answer.specs.Limit.{mostLegs}
+use Rattle.tape.specs.Tape.{mostRows, closed, isLeg, roomOf, rowNext, projectNext}
 use Rattle.tape.specs.Tape.{Step, Next, Stop, afterOf, takeOf, judge, stepOf, onStep}
 use Rattle.tape.specs.Tape.{walk, start, readingOf}
 use Rattle.tape.specs.declared.State.{State}

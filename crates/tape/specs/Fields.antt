@@ -1,5 +1,5 @@
--- Paper 01, "The tape": the fields of a tape by their names, in parts by the record that has them. Each is picked from the
--- records of the tape; the row that counts is the one of the mean latitude.
+-- Paper 01, "The tape": the fields of a tape by their names, in parts by the record that has them.
+-- Each is picked from the records of the tape; the row that counts is the one of the mean latitude.
 use mathlib.Core.Bool.{Bool, cond, _&&_, _||_}
 use mathlib.Core.List.{List, [], _∷_, map}
 use mathlib.Core.Path.{_≡_}
@@ -19,19 +19,22 @@ use Rattle.tape.specs.declared.Reading.the-variants as reading
 use Rattle.tape.specs.Tape.{isLeg, readingOf, recordsOf, Told}
 
 -- ---- the parts
--- where the project lies: its mean latitude and elevation, and the factor of the row of that latitude
+-- where the project lies: its mean latitude and elevation, and the factor of the row of that
+-- latitude
 pub record Site : Type 0 where
   pub latitude : ℕ
   pub elevation : Whole
   pub scale : ℕ
 
--- the fixed point where the line opens, the azimuth to the mark there, and the place of the first record after it
+-- the fixed point where the line opens, the azimuth to the mark there, and the place of the first
+-- record after it
 pub record Opening : Type 0 where
   pub from : Point
   pub mark : ℕ
   pub line : ℕ
 
--- how many legs, the angles turned (of each leg in its turn, then the closing one), and the distances of the legs
+-- how many legs, the angles turned (of each leg in its turn, then the closing one), and the
+-- distances of the legs
 pub record Line : Type 0 where
   pub legs : ℕ
   pub angles : List ℕ

@@ -1,4 +1,5 @@
--- The legs of a tape, found by walking: what the bytes at a place say of a leg, and where the next one stands.
+-- The legs of a tape, found by walking: what the bytes at a place say of a leg, and where the next
+-- one stands.
 use mathlib.Core.Path.{_≡_}
 use mathlib.Core.Bool.{true, cond}
 use mathlib.Core.List.{List, [], _∷_}
@@ -6,13 +7,15 @@ use Prim.Native.Nat.{ℕ, _+_}
 use lib.Dec.{leb}
 use lib.ListN.{length, getD, drop}
 use Rattle.records.specs.Bytes.{four, num}
-use Rattle.records.specs.Record.{Rec, rowKind, projectKind, startKind, legKind, closeKind, bodyOf, goodOf}
+use Rattle.records.specs.Record.{rowKind, projectKind, startKind, legKind, closeKind}
+use Rattle.records.specs.Record.{Rec, bodyOf, goodOf}
 use Rattle.tape.specs.Tape.{isLeg, recordsOf, tapeOf}
 use Rattle.tape.specs.Fields.{pick, turns}
 use Rattle.tape.specs.declared.Sight.{Sight}
 
--- ---- at any place of any tape: the angle and the distance of the leg that stands there, and the place of the record after it.
--- A close has an angle, and the walk stays there; where no leg can stand whole all is zero but the place
+-- ---- at any place of any tape: the angle and the distance of the leg that stands there, and the
+-- place of the record after it. A close has an angle, and the walk stays there; where no leg can
+-- stand whole all is zero but the place
 abbrev pub noSight : ℕ → Sight
 noSight at = record { angle = 0; distance = 0; next = at }
 
@@ -47,11 +50,11 @@ pub data Legs : List Rec → Type 0 where
 -- rows, then the project, the start, and a leg at least
 pub data Order : List Rec → Type 0 where
   row : (r : Rec) {rs : List Rec} → r .kind ≡ rowKind → Order rs → Order (r ∷ rs)
-  opens : (p s l : Rec) {rs : List Rec} → p .kind ≡ projectKind → s .kind ≡ startKind → isLeg (l .kind) ≡ true
-      → Legs rs → Order (p ∷ s ∷ l ∷ rs)
+  opens : (p s l : Rec) {rs : List Rec} → p .kind ≡ projectKind → s .kind ≡ startKind
+      → isLeg (l .kind) ≡ true → Legs rs → Order (p ∷ s ∷ l ∷ rs)
 
--- leg k, counted from 0, stands at the place, or the close after the last leg does: from there on the records are
--- legs and the close, and those that turn an angle are the tape's less the first k
+-- leg k, counted from 0, stands at the place, or the close after the last leg does: from there on
+-- the records are legs and the close, and those that turn an angle are the tape's less the first k
 pub record LegAt (tape : List ℕ) (k at : ℕ) : Type 0 where
   pub rs : List Rec
   pub rest : Rest tape at rs

@@ -1,5 +1,5 @@
--- What the reader's private functions promise one another, each of its part of the tape: the reading of the whole is a
--- refusal there, or the reading from the place after the part on.
+-- What the reader's private functions promise one another, each of its part of the tape: the
+-- reading of the whole is a refusal there, or the reading from the place after the part on.
 use mathlib.Core.Path.{_≡_}
 use mathlib.Core.Bool.{cond, false}
 use mathlib.Core.Logic.{_⊎_}
@@ -14,7 +14,8 @@ use Rattle.tape.specs.declared.Cursor.{Cursor}
 use Rattle.tape.specs.declared.Passed.{Passed}
 use Rattle.tape.specs.declared.Reading.{Reading}
 use Rattle.tape.specs.declared.Reading.the-variants.{Refused}
-use Rattle.tape.specs.Tape.{atRows, lineBegun, afterLeg, isLeg, withRow, withLeg, inPhase, walk, readingOf}
+use Rattle.tape.specs.Tape.{atRows, lineBegun, afterLeg, isLeg, withRow, withLeg, inPhase}
+use Rattle.tape.specs.Tape.{walk, readingOf}
 
 abbrev pub cursor : ℕ → State → Cursor
 cursor at st = record { at = at; st = st }
@@ -28,12 +29,12 @@ abbrev pub reached : List ℕ → ℕ → Cursor → Reading
 reached tape n c = cond (eqb n 0) (onward tape c) (Refused n (c .at))
 
 -- ---- the cursor after a record
--- so many bytes on, in a phase
+-- the cursor a number of bytes further on, in a phase
 abbrev pub past : Cursor → ℕ → ℕ → Cursor
 past c bytes phase = cursor (c .at + bytes) (inPhase phase (c .st))
 
 abbrev pub pastRow : List ℕ → Cursor → Cursor
-pastRow tape c = cursor (c .at + 7) (withRow (c .st) (num two tape (c .at + 1)))
+pastRow tape c = cursor (c .at + (1 + bodyOf rowKind)) (withRow (c .st) (num two tape (c .at + 1)))
 
 abbrev pub pastLeg : List ℕ → Cursor → Cursor
 pastLeg tape c = cursor (c .at + 1 + bodyOf (getD tape (c .at) 0)) (withLeg (c .st))

@@ -1,11 +1,13 @@
--- Paper 01, "The tape" and "Nine refusals": the reading that stands before refusals 8 and 9. For every list of bytes it is the state at the end, or
--- the refusal with its place.
+-- Paper 01, "The tape" and "Nine refusals": the reading that stands before refusals 8 and 9. For
+-- every list of bytes it is the state at the end, or the refusal with its place.
 use mathlib.Core.Bool.{Bool, true, false, cond, _&&_, _||_}
 use mathlib.Core.List.{List, [], _∷_, _++_}
 use Prim.Native.Nat.{ℕ, zero, suc, _+_, _-_}
 use lib.Dec.{leb, ltb, eqb}
 use lib.ListN.{length, getD}
 use lib.IntN.{ℤ, pos, natAbs}
+use Rattle.answer.specs.Limit.{mostLegs}
+use Rattle.answer.specs.Refusal.{cutShort, outOfOrder, outOfRange, badRows, tooManyLegs, noRow}
 use Rattle.tape.specs.declared.State.{State}
 use Rattle.tape.specs.declared.Reading.{Reading}
 use Rattle.tape.specs.declared.Reading.the-variants.{Refused, Reads}
@@ -18,11 +20,9 @@ pub data Step : Type 0 where
   Stop : ℕ → Step
 
 -- ---- "Order: 0 to 600 rows ..; one project; one start; 1 to 64 legs; one close; end."
+-- the most rows; the most legs are among the limits of `answer`
 abbrev pub mostRows : ℕ
 mostRows = 600
-
-abbrev pub mostLegs : ℕ
-mostLegs = 64
 
 -- what has come last: nothing or rows, the project, the start, a leg, or the close
 abbrev pub atRows : ℕ
@@ -52,11 +52,11 @@ mayCome st k =
     (cond (eqb (st .phase) afterLeg) (isLeg k || eqb k closeKind)
     false)))
 
--- the 601st row is refused with 5, the 65th leg with 6; 0 where there is room
+-- what refuses the 601st row and the 65th leg; 0 where there is room
 unfoldable pub roomOf : State → ℕ → ℕ
 roomOf st k =
-    cond (eqb k rowKind) (cond (ltb (st .rows) mostRows) 0 5)
-    (cond (isLeg k) (cond (ltb (st .legs) mostLegs) 0 6)
+    cond (eqb k rowKind) (cond (ltb (st .rows) mostRows) 0 badRows)
+    (cond (isLeg k) (cond (ltb (st .legs) mostLegs) 0 tooManyLegs)
     0)
 
 -- ---- what a record that is taken changes
@@ -74,14 +74,14 @@ withLeg st =
 -- "each one minute above the row before": else 5. The first row has none before it
 unfoldable pub rowNext : State → ℕ → Step
 rowNext st minute =
-    cond (eqb (st .rows) 0 || eqb minute (st .next)) (Next (withRow st minute)) (Stop 5)
+    cond (eqb (st .rows) 0 || eqb minute (st .next)) (Next (withRow st minute)) (Stop badRows)
 
 -- "no row for the mean latitude": 7. The rows have the minutes from next - rows to next - 1
 unfoldable pub projectNext : State → ℕ → Step
 projectNext st latitude =
     cond (ltb latitude (st .next) && leb (st .next - latitude) (st .rows))
     (Next (inPhase afterProject st))
-    (Stop 7)
+    (Stop noRow)
 
 -- the first number of a record, a minute for rows and the project
 abbrev pub firstOf : List ℤ → ℕ
@@ -96,34 +96,37 @@ afterOf st k vs =
     (cond (isLeg k) (Next (withLeg st))
     (Next (inPhase closed st)))))
 
--- ---- "in a record: its kind (3), the 601st row or 65th leg (5, 6), its body whole (2), its fields in order (4), then row succession (5) or the row for
--- the latitude (7)": the order of the tests is the shape of these two
+-- ---- "in a record: its kind (3), the 601st row or 65th leg (5, 6), its body whole (2), its fields
+-- in order (4), then row succession (5) or the row for the latitude (7)": the order of the tests is
+-- the shape of these two
 unfoldable pub takeOf : State → ℕ → Bool → List ℤ → Step
 takeOf st k whole vs =
     cond (eqb (roomOf st k) 0)
-    (cond whole (cond (goodOf k vs) (afterOf st k vs) (Stop 4)) (Stop 2))
+    (cond whole (cond (goodOf k vs) (afterOf st k vs) (Stop outOfRange)) (Stop cutShort))
     (Stop (roomOf st k))
 
 unfoldable pub judge : State → ℕ → Bool → List ℤ → Step
-judge st k whole vs = cond (mayCome st k) (takeOf st k whole vs) (Stop 3)
+judge st k whole vs = cond (mayCome st k) (takeOf st k whole vs) (Stop outOfOrder)
 
 -- the record at the front of l
 unfoldable pub stepOf : State → List ℕ → Step
 stepOf st l = let k = getD l 0 0 in judge st k (ltb (bodyOf k) (length l)) (numbersOf k l)
 
--- ---- the tape from a record on: at is its place, and n bytes of the record before are still to pass. A refusal's place is the record's first byte;
--- where the tape ends before a close is read, the place is its length
+-- ---- the tape from a record on: at is its place, and n bytes of the record before are still to
+-- pass. A refusal's place is the record's first byte; where the tape ends before a close is read,
+-- the place is its length
 abbrev pub onStep : Step → ℕ → (State → Reading) → Reading
 onStep (Next st) at f = f st
 onStep (Stop n) at f = Refused n at
 
 abbrev pub atEnd : State → ℕ → Reading
-atEnd st at = cond (eqb (st .phase) closed) (Reads st) (Refused 2 at)
+atEnd st at = cond (eqb (st .phase) closed) (Reads st) (Refused cutShort at)
 
 unfoldable pub walk : State → ℕ → ℕ → List ℕ → Reading
 walk st at n [] = atEnd st at
 walk st at (suc n) (x ∷ l) = walk st at n l
-walk st at zero (x ∷ l) = onStep (stepOf st (x ∷ l)) at (λ st′. walk st′ (at + 1 + bodyOf x) (bodyOf x) l)
+walk st at zero (x ∷ l) =
+    onStep (stepOf st (x ∷ l)) at (λ st′. walk st′ (at + 1 + bodyOf x) (bodyOf x) l)
 
 abbrev pub start : State
 start = record { phase = atRows; rows = 0; next = 0; legs = 0 }
@@ -135,7 +138,8 @@ readingOf tape = walk start 0 0 tape
 unfoldable pub recordsFrom : ℕ → List ℕ → List Rec
 recordsFrom n [] = []
 recordsFrom (suc n) (x ∷ l) = recordsFrom n l
-recordsFrom zero (x ∷ l) = record { kind = x; values = numbersOf x (x ∷ l) } ∷ recordsFrom (bodyOf x) l
+recordsFrom zero (x ∷ l) =
+    record { kind = x; values = numbersOf x (x ∷ l) } ∷ recordsFrom (bodyOf x) l
 
 abbrev pub recordsOf : List ℕ → List Rec
 recordsOf tape = recordsFrom 0 tape
@@ -144,10 +148,13 @@ unfoldable pub tapeOf : List Rec → List ℕ
 tapeOf [] = []
 tapeOf (r ∷ rs) = bytesOf (r .kind) (r .values) ++ tapeOf rs
 
--- the same tests over records, whose bodies are whole: what refusal "tried before 8" some fields meet
+-- the tests of the reading over records, whose bodies are whole: what refusal "tried before 8" some
+-- fields meet
 unfoldable pub runOf : State → ℕ → List Rec → Reading
 runOf st at [] = atEnd st at
-runOf st at (r ∷ rs) = onStep (judge st (r .kind) true (r .values)) at (λ st′. runOf st′ (at + 1 + bodyOf (r .kind)) rs)
+runOf st at (r ∷ rs) =
+    onStep (judge st (r .kind) true (r .values)) at
+    (λ st′. runOf st′ (at + 1 + bodyOf (r .kind)) rs)
 
 abbrev pub fieldsRead : List Rec → Reading
 fieldsRead rs = runOf start 0 rs

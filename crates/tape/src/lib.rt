@@ -10,7 +10,8 @@ ghost use Rattle.tape.specs.Tape.{readingOf, told};
 ghost use Rattle.tape.specs.Fields.{takenOf, toldTaken, AllBytes};
 ghost use Rattle.tape.specs.Legs.{sightAt};
 
-// What has been read so far: what has come last (`phase`), how many rows and legs, and the minute that the next row must have.
+// What has been read so far: what has come last (`phase`), how many rows and legs, and the minute
+// that the next row must have.
 pub struct State {
     pub phase: u32,
     pub rows: u32,
@@ -42,8 +43,8 @@ pub struct Point {
     pub east: u32,
 }
 
-// The fields of a tape, but for the angles and distances: these stay on the tape, from the place `line` on, where the first leg
-// stands; the close stands at `place`.
+// The fields of a tape, but for the angles and distances: these stay on the tape, from the place
+// `line` on, where the first leg stands; the close stands at `place`.
 pub struct Control {
     pub legs: usize,
     pub line: usize,
@@ -56,8 +57,9 @@ pub struct Control {
     pub place: usize,
 }
 
-// What was sighted at a station, as it stands at a place: the angle and the distance of the leg there, and the place of the record after it. A close has an
-// angle, and no leg after it: its next place is its own.
+// What was sighted at a station, as it stands at a place: the angle and the distance of the leg
+// there, and the place of the record after it. A close has an angle, and no leg after it: its next
+// place is its own.
 pub struct Sight {
     pub angle: u32,
     pub distance: u32,
@@ -82,7 +84,8 @@ pub fn read(tape: &[u8]) -> Reading
     order::read_all(tape)
 }
 
-// The reading of any tape, and the fields of one that reads. Callers walk its legs by `sight_at`, from `line` on.
+// The reading of any tape, and the fields of one that reads. Callers walk its legs by `sight_at`,
+// from `line` on.
 pub fn take(tape: &[u8]) -> Taken
     ensures is { λ r. ⌜ r ≡ takenOf (now (tape .entry)) ⌝ }
     ensures told { λ r. ⌜ toldTaken r ≡ told (readingOf (now (tape .entry))) ⌝ }
@@ -94,8 +97,8 @@ pub fn take(tape: &[u8]) -> Taken
     }
 }
 
-// How many places of a tape have so many bytes after them: a place is then tested by one comparison, with no sum that could
-// overflow.
+// How many places of a tape have a given number of bytes after them: a place is then tested by one
+// comparison, with no sum that could overflow.
 fn places(tape: &[u8], after: usize) -> usize
     ensures { λ r. ⌜ r ≡ length (now (tape .entry)) - after ⌝ }
 {

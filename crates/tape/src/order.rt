@@ -1,14 +1,22 @@
-// The reading of a tape in the paper's order: rows, the project, the start, legs, the close, the end. Each record's own tests stand
-// in the paper's order too.
+// The reading of a tape in the paper's order: rows, the project, the start, legs, the close, the
+// end. Each record's own tests stand in the paper's order too.
 //
-// Rows may be many: where the last of them may stand, by the limit and by the tape's length, is known before the first is read, so
-// that each is told by the fewest tests. Legs are read record by record.
+// Rows may be many: where the last of them may stand, by the limit and by the tape's length, is
+// known before the first is read, so that each is told by the fewest tests. Legs are read record by
+// record.
 use crate::Cursor;
 use crate::Passed;
 use crate::Reading;
 use crate::State;
 use crate::digits;
 use crate::places;
+use answer::limit;
+use answer::refusal::BAD_ROWS;
+use answer::refusal::CUT_SHORT;
+use answer::refusal::NO_ROW;
+use answer::refusal::OUT_OF_ORDER;
+use answer::refusal::OUT_OF_RANGE;
+use answer::refusal::TOO_MANY_LEGS;
 use records::CLOSE;
 use records::CLOSE_BODY;
 use records::CLOSE_BYTES;
@@ -30,8 +38,13 @@ ghost use mathlib.Core.Bool.{cond, true, false};
 ghost use Prim.Native.Nat.{_+_, _<_, _≤_};
 ghost use lib.Dec.{eqb, ltb};
 ghost use lib.ListN.{length, getD};
+ghost use Rattle.answer.specs.Limit.{mostLegs};
+ghost use Rattle.answer.specs.Refusal.{cutShort, outOfOrder};
+ghost use Rattle.records.specs.Record.{rowKind, projectKind, startKind, closeKind, bodyOf};
+ghost use Rattle.tape.specs.Tape.{mostRows, atRows, afterProject, lineBegun, closed};
 ghost use Rattle.tape.specs.Tape.{isLeg, readingOf};
-ghost use Rattle.tape.specs.Passing.{onward, past, pastRow, pastLeg, Passes, InLine, Rowed, Opened, Walked};
+ghost use Rattle.tape.specs.Passing.{onward, past, pastRow, pastLeg, Passes};
+ghost use Rattle.tape.specs.Passing.{InLine, Rowed, Opened, Walked};
 
 // ---- what has come last; the number 2 is kept for a record between the project and the start
 const AT_ROWS: u32 = 0;
@@ -47,7 +60,8 @@ const CLOSED: u32 = 5;
 // ---- "0 to 600 rows", "1 to 64 legs"
 const MOST_ROWS: u32 = 600;
 
-const MOST_LEGS: u32 = 64;
+// The limit as wide as a count of legs in a state.
+const MOST_LEGS: u32 = limit::MOST_LEGS as u32;
 
 // The bytes of all the rows that a tape can have.
 const MOST_ROW_BYTES: usize = MOST_ROWS as usize * ROW_BYTES;
@@ -63,7 +77,8 @@ fn least(a: usize, b: usize) -> usize
     b
 }
 
-// Whether one more of a kind stands at a place, of those that there is room for: they stand before the end.
+// Whether one more of a kind stands at a place, of those that there is room for: they stand before
+// the end.
 fn more(tape: &[u8], at: usize, kind: u8, end: usize) -> bool
     requires { ⌜ end ≤ length (now tape) ⌝ }
     ensures { λ r. ⌜ r ≡ cond (ltb at end) (eqb (getD (now (tape .entry)) at 0) kind) false ⌝ }
@@ -74,9 +89,14 @@ fn more(tape: &[u8], at: usize, kind: u8, end: usize) -> bool
     tape[at] == kind
 }
 
-// What refuses one more of a kind, for which there is no room: 2 where the tape is too short, or else the number of one too many. 0 for another record.
+// What refuses one more of a kind, for which there is no room: the tape is cut short, or else
+// `number` says that it is one too many. 0 for another record.
 fn beyond(tape: &[u8], at: usize, kind: u8, count: u32, limit: u32, number: u32) -> u32
-    ensures { λ r. ⌜ r ≡ cond (ltb at (length (now (tape .entry)))) (cond (eqb (getD (now (tape .entry)) at 0) kind) (cond (ltb count limit) 2 number) 0) 0 ⌝ }
+    ensures { λ r. ⌜ r ≡ cond (ltb at (length (now (tape .entry))))
+        (cond (eqb (getD (now (tape .entry)) at 0) kind)
+        (cond (ltb count limit) cutShort number)
+        0)
+        0 ⌝ }
 {
     if tape.len() <= at {
         return 0;
@@ -85,22 +105,25 @@ fn beyond(tape: &[u8], at: usize, kind: u8, count: u32, limit: u32, number: u32)
         return 0;
     }
     if count < limit {
-        return 2;
+        return CUT_SHORT;
     }
     number
 }
 
-// What refuses another record where only one kind may stand: 2 at the end of the tape, 3 before it.
+// What refuses another record where only one kind may stand: at the end of the tape it is cut
+// short, before it a record is out of order. 0 for the kind that may stand.
 fn other(tape: &[u8], at: usize, kind: u8) -> u32
-    ensures { λ r. ⌜ r ≡ cond (ltb at (length (now (tape .entry)))) (cond (eqb (getD (now (tape .entry)) at 0) kind) 0 3) 2 ⌝ }
+    ensures { λ r. ⌜ r ≡ cond (ltb at (length (now (tape .entry))))
+        (cond (eqb (getD (now (tape .entry)) at 0) kind) 0 outOfOrder)
+        cutShort ⌝ }
 {
     if tape.len() <= at {
-        return 2;
+        return CUT_SHORT;
     }
     if tape[at] == kind {
         return 0;
     }
-    3
+    OUT_OF_ORDER
 }
 
 // Whether a leg stands at a place.
@@ -114,7 +137,7 @@ fn leg_stands(tape: &[u8], at: usize) -> bool
 }
 
 // ---- the cursor after a record
-// So many bytes on, in another phase.
+// The cursor a number of bytes further on, in another phase.
 fn past_record(c: Cursor, bytes: usize, phase: u32) -> Cursor
     requires { ⌜ c .at + bytes < 18446744073709551616 ⌝ }
     ensures { λ r. ⌜ r ≡ past c bytes phase ⌝ }
@@ -133,7 +156,8 @@ fn past_record(c: Cursor, bytes: usize, phase: u32) -> Cursor
 
 // Past the row that stands at the cursor, which is whole.
 fn past_row(tape: &[u8], c: Cursor) -> Cursor
-    requires { ⌜ (c .at + 7 ≤ length (now tape)) × (c .st .rows < 600) ⌝ }
+    requires { ⌜ c .at + (1 + bodyOf rowKind) ≤ length (now tape) ⌝ }
+    requires { ⌜ c .st .rows < mostRows ⌝ }
     ensures { λ r. ⌜ r ≡ pastRow (now (tape .entry)) c ⌝ }
 {
     let at = c.at;
@@ -154,7 +178,7 @@ fn past_row(tape: &[u8], c: Cursor) -> Cursor
 fn past_leg(tape: &[u8], c: Cursor) -> Cursor
     requires { ⌜ isLeg (getD (now tape) (c .at) 0) ≡ true ⌝ }
     requires { ⌜ pastLeg (now tape) c .at ≤ length (now tape) ⌝ }
-    requires { ⌜ c .st .legs < 64 ⌝ }
+    requires { ⌜ c .st .legs < mostLegs ⌝ }
     ensures { λ r. ⌜ r ≡ pastLeg (now (tape .entry)) c ⌝ }
 {
     let st = c.st;
@@ -169,11 +193,13 @@ fn past_leg(tape: &[u8], c: Cursor) -> Cursor
     }
 }
 
-// ---- what refuses a record: its number, or 0. The cursor's state is handed to each for its promise; the start does not look at it.
+// ---- what refuses a record: its number, or 0. The cursor's state is handed to each for its
+// promise; the start does not look at it.
 // A row that there is room for.
 fn row(tape: &[u8], c: Cursor) -> u32
-    requires { ⌜ (getD (now tape) (c .at) 0 ≡ 5) × (c .at + 7 ≤ length (now tape)) ⌝ }
-    requires { ⌜ (c .st .phase ≡ 0) × (c .st .rows < 600) ⌝ }
+    requires { ⌜ (getD (now tape) (c .at) 0 ≡ rowKind)
+        × (c .at + (1 + bodyOf rowKind) ≤ length (now tape)) ⌝ }
+    requires { ⌜ (c .st .phase ≡ atRows) × (c .st .rows < mostRows) ⌝ }
     ensures { λ r. ⌜ Passes (now (tape .entry)) c r (pastRow (now (tape .entry)) c) ⌝ }
 {
     let at = c.at;
@@ -186,16 +212,17 @@ fn row(tape: &[u8], c: Cursor) -> u32
         if minute == st.next {
             return 0;
         }
-        return 5;
+        return BAD_ROWS;
     }
-    4
+    OUT_OF_RANGE
 }
 
 // The project, where no row stands.
 fn project(tape: &[u8], c: Cursor) -> u32
-    requires { ⌜ (getD (now tape) (c .at) 0 ≡ 5 → ⊥) ⌝ }
-    requires { ⌜ c .st .phase ≡ 0 ⌝ }
-    ensures { λ r. ⌜ Passes (now (tape .entry)) c r (past c 5 1) ⌝ }
+    requires { ⌜ (getD (now tape) (c .at) 0 ≡ rowKind → ⊥) ⌝ }
+    requires { ⌜ c .st .phase ≡ atRows ⌝ }
+    ensures { λ r. ⌜ Passes (now (tape .entry)) c r
+        (past c (1 + bodyOf projectKind) afterProject) ⌝ }
 {
     let at = c.at;
     let st = c.st;
@@ -204,24 +231,24 @@ fn project(tape: &[u8], c: Cursor) -> u32
         return number;
     }
     if tape.len() - at <= PROJECT_BODY {
-        return 2;
+        return CUT_SHORT;
     }
     let latitude = digits::two_at(tape, at + 1);
     if ranges::project_good(latitude, digits::signed_at(tape, at + 3)) {
         if st.next <= latitude {
-            return 7;
+            return NO_ROW;
         }
         if st.rows < st.next - latitude {
-            return 7;
+            return NO_ROW;
         }
         return 0;
     }
-    4
+    OUT_OF_RANGE
 }
 
 fn start(tape: &[u8], c: Cursor) -> u32
-    requires { ⌜ c .st .phase ≡ 1 ⌝ }
-    ensures { λ r. ⌜ Passes (now (tape .entry)) c r (past c 13 3) ⌝ }
+    requires { ⌜ c .st .phase ≡ afterProject ⌝ }
+    ensures { λ r. ⌜ Passes (now (tape .entry)) c r (past c (1 + bodyOf startKind) lineBegun) ⌝ }
 {
     let at = c.at;
     let number = other(tape, at, START);
@@ -229,7 +256,7 @@ fn start(tape: &[u8], c: Cursor) -> u32
         return number;
     }
     if tape.len() - at <= START_BODY {
-        return 2;
+        return CUT_SHORT;
     }
     if ranges::start_good(
         digits::four_at(tape, at + 1),
@@ -238,7 +265,7 @@ fn start(tape: &[u8], c: Cursor) -> u32
     ) {
         return 0;
     }
-    4
+    OUT_OF_RANGE
 }
 
 // The leg that stands at the cursor.
@@ -246,27 +273,27 @@ fn leg(tape: &[u8], c: Cursor) -> u32
     requires { ⌜ isLeg (getD (now tape) (c .at) 0) ≡ true ⌝ }
     requires { ⌜ InLine (c .st) ⌝ }
     ensures passes { λ r. ⌜ Passes (now (tape .entry)) c r (pastLeg (now (tape .entry)) c) ⌝ }
-    ensures few { λ r. ⌜ (r ≡ 0 → c .st .legs < 64) ⌝ }
+    ensures few { λ r. ⌜ (r ≡ 0 → c .st .legs < mostLegs) ⌝ }
 {
     let at = c.at;
     let st = c.st;
     if MOST_LEGS <= st.legs {
-        return 6;
+        return TOO_MANY_LEGS;
     }
     if tape.len() - at <= LEG_BODY {
-        return 2;
+        return CUT_SHORT;
     }
     if ranges::leg_good(digits::four_at(tape, at + 1), digits::four_at(tape, at + 5)) {
         return 0;
     }
-    4
+    OUT_OF_RANGE
 }
 
 // The close, where no leg stands. Before the first leg it may not come.
 fn close(tape: &[u8], c: Cursor) -> u32
     requires { ⌜ isLeg (getD (now tape) (c .at) 0) ≡ false ⌝ }
     requires { ⌜ InLine (c .st) ⌝ }
-    ensures { λ r. ⌜ Passes (now (tape .entry)) c r (past c 17 5) ⌝ }
+    ensures { λ r. ⌜ Passes (now (tape .entry)) c r (past c (1 + bodyOf closeKind) closed) ⌝ }
 {
     let at = c.at;
     let st = c.st;
@@ -275,10 +302,10 @@ fn close(tape: &[u8], c: Cursor) -> u32
         return number;
     }
     if st.phase == LINE_BEGUN {
-        return 3;
+        return OUT_OF_ORDER;
     }
     if tape.len() - at <= CLOSE_BODY {
-        return 2;
+        return CUT_SHORT;
     }
     if ranges::close_good(
         digits::four_at(tape, at + 1),
@@ -288,7 +315,7 @@ fn close(tape: &[u8], c: Cursor) -> u32
     ) {
         return 0;
     }
-    4
+    OUT_OF_RANGE
 }
 
 // ---- the parts of the tape
@@ -311,7 +338,7 @@ fn rows(tape: &[u8]) -> Passed
         c = past_row(tape, c);
     }
     let last = c.st;
-    let number = beyond(tape, c.at, ROW, last.rows, MOST_ROWS, 5);
+    let number = beyond(tape, c.at, ROW, last.rows, MOST_ROWS, BAD_ROWS);
     Passed { number, cursor: c }
 }
 
@@ -377,7 +404,7 @@ fn finish(tape: &[u8], c: Cursor) -> Reading
     let end = past_record(c, CLOSE_BYTES, CLOSED);
     if end.at < tape.len() {
         return Reading::Refused {
-            number: 3,
+            number: OUT_OF_ORDER,
             place: end.at,
         };
     }

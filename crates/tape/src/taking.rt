@@ -10,8 +10,8 @@ use records::START_BYTES;
 ghost use mathlib.Core.Path.{_≡_};
 ghost use Rattle.tape.specs.Fields.{fieldsOf, controlOf, ReadsTo};
 
-// The fields of a tape that reads to the given state. Its rows tell where the project stands, the start and the legs follow it, and
-// the close ends the tape, so that no leg is passed over.
+// The fields of a tape that reads to the given state. Its rows tell where the project stands, the
+// start and the legs follow it, and the close ends the tape, so that no leg is passed over.
 pub fn control(tape: &[u8], last: State) -> Control
     requires { ⌜ ReadsTo (now tape) last ⌝ }
     ensures { λ r. ⌜ r ≡ controlOf (fieldsOf (now (tape .entry))) ⌝ }

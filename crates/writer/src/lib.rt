@@ -1,4 +1,6 @@
 // The writing of one record of a tape into lent bytes.
+use answer::refusal::NO_ROOM;
+use answer::refusal::OUT_OF_RANGE;
 use records::Record;
 ghost use mathlib.Core.Path.{_≡_};
 ghost use mathlib.Core.Bool.{true};
@@ -20,7 +22,9 @@ mod writing;
 fn lend_on(out: &mut [u8], place: usize, given: Record)
     requires { ⌜ place + length (bytesOfRecord given) ≤ length (now out) ⌝ }
     requires { ⌜ goodRecord given ≡ true ⌝ }
-    ensures { λ r. ⌜ now (out .exit) ≡ take place (now (out .entry)) ++ (bytesOfRecord given ++ drop (place + length (bytesOfRecord given)) (now (out .entry))) ⌝ }
+    ensures { λ r. ⌜ now (out .exit) ≡ take place (now (out .entry))
+        ++ (bytesOfRecord given
+        ++ drop (place + length (bytesOfRecord given)) (now (out .entry))) ⌝ }
 {
     match given {
         Record::Row { minute, factor } => writing::put_row(&mut out[place..], minute, factor),
@@ -43,21 +47,22 @@ fn lend_on(out: &mut [u8], place: usize, given: Record)
     }
 }
 
-// One record, written at a place of the lent bytes: its room is tried, then its fields, and the rest of the bytes lent on to the writer of its kind.
-// Any place may be given.
+// One record, written at a place of the lent bytes: its room is tested, then its fields, and the
+// rest of the bytes is lent on to the writer of its kind. Any place may be given.
 pub fn write(out: &mut [u8], place: usize, given: Record) -> Written
-    ensures { λ r. ⌜ Wrote (now (out .entry)) (now (out .exit)) place (goodRecord given) (bytesOfRecord given) r ⌝ }
+    ensures { λ r. ⌜ Wrote (now (out .entry)) (now (out .exit)) place
+        (goodRecord given) (bytesOfRecord given) r ⌝ }
 {
     let body = records::ranges::body_len(records::ranges::kind(given));
     if out.len() < place {
         return Written::Refused {
-            number: 1,
+            number: NO_ROOM,
             place: 0,
         };
     }
     if out.len() - place <= body {
         return Written::Refused {
-            number: 1,
+            number: NO_ROOM,
             place: 0,
         };
     }
@@ -65,5 +70,8 @@ pub fn write(out: &mut [u8], place: usize, given: Record) -> Written
         lend_on(out, place, given);
         return Written::Until(place + 1 + body);
     }
-    Written::Refused { number: 4, place }
+    Written::Refused {
+        number: OUT_OF_RANGE,
+        place,
+    }
 }

@@ -1,4 +1,9 @@
 // The stores of a record at the front of the bytes lent on, a function for each kind.
+use records::CLOSE;
+use records::LEG;
+use records::PROJECT;
+use records::ROW;
+use records::START;
 use whole::Whole;
 ghost use mathlib.Core.Path.{_≡_};
 ghost use mathlib.Core.List.{_++_, [], _∷_};
@@ -7,7 +12,9 @@ ghost use lib.ListN.{length, drop, set};
 ghost use lib.Seq.{sets};
 ghost use lib.IntN.{pos, natAbs};
 ghost use Rattle.records.specs.Bytes.{two, four, bytes, written};
-ghost use Rattle.records.specs.Record.{bytesOf};
+ghost use Rattle.answer.specs.Limit.{highest};
+ghost use Rattle.records.specs.Record.{rowKind, projectKind, startKind, legKind, closeKind};
+ghost use Rattle.records.specs.Record.{bodyOf, bytesOf};
 
 // ---- a kind, and numbers, the high byte first
 fn put_kind(out: &mut [u8], kind: u8)
@@ -37,7 +44,7 @@ fn put_four(out: &mut [u8], at: usize, n: u32)
 
 // What two bytes hold of an elevation.
 fn raw(elevation: Whole) -> u32
-    requires { ⌜ natAbs (elevation .v) ≤ 20000 ⌝ }
+    requires { ⌜ natAbs (elevation .v) ≤ highest ⌝ }
     ensures { λ r. ⌜ r ≡ written two (elevation .v) ⌝ }
 {
     let feet = elevation.size() as u32;
@@ -49,49 +56,59 @@ fn raw(elevation: Whole) -> u32
 
 // ---- a record at the front of the bytes lent on
 pub fn put_row(out: &mut [u8], minute: u32, factor: u32)
-    requires { ⌜ 7 ≤ length (now out) ⌝ }
-    ensures { λ r. ⌜ now (out .exit) ≡ bytesOf 5 (pos minute ∷ pos factor ∷ []) ++ drop 7 (now (out .entry)) ⌝ }
+    requires { ⌜ 1 + bodyOf rowKind ≤ length (now out) ⌝ }
+    ensures { λ r. ⌜ now (out .exit)
+        ≡ bytesOf rowKind (pos minute ∷ pos factor ∷ [])
+        ++ drop (1 + bodyOf rowKind) (now (out .entry)) ⌝ }
 {
-    put_kind(out, 5);
+    put_kind(out, ROW);
     put_two(out, 1, minute);
     put_four(out, 3, factor);
 }
 
 pub fn put_project(out: &mut [u8], latitude: u32, elevation: Whole)
-    requires { ⌜ 5 ≤ length (now out) ⌝ }
-    requires { ⌜ natAbs (elevation .v) ≤ 20000 ⌝ }
-    ensures { λ r. ⌜ now (out .exit) ≡ bytesOf 1 (pos latitude ∷ elevation .v ∷ []) ++ drop 5 (now (out .entry)) ⌝ }
+    requires { ⌜ 1 + bodyOf projectKind ≤ length (now out) ⌝ }
+    requires { ⌜ natAbs (elevation .v) ≤ highest ⌝ }
+    ensures { λ r. ⌜ now (out .exit)
+        ≡ bytesOf projectKind (pos latitude ∷ elevation .v ∷ [])
+        ++ drop (1 + bodyOf projectKind) (now (out .entry)) ⌝ }
 {
     let feet = raw(elevation);
-    put_kind(out, 1);
+    put_kind(out, PROJECT);
     put_two(out, 1, latitude);
     put_two(out, 3, feet);
 }
 
 pub fn put_start(out: &mut [u8], northing: u32, easting: u32, mark: u32)
-    requires { ⌜ 13 ≤ length (now out) ⌝ }
-    ensures { λ r. ⌜ now (out .exit) ≡ bytesOf 2 (pos northing ∷ pos easting ∷ pos mark ∷ []) ++ drop 13 (now (out .entry)) ⌝ }
+    requires { ⌜ 1 + bodyOf startKind ≤ length (now out) ⌝ }
+    ensures { λ r. ⌜ now (out .exit)
+        ≡ bytesOf startKind (pos northing ∷ pos easting ∷ pos mark ∷ [])
+        ++ drop (1 + bodyOf startKind) (now (out .entry)) ⌝ }
 {
-    put_kind(out, 2);
+    put_kind(out, START);
     put_four(out, 1, northing);
     put_four(out, 5, easting);
     put_four(out, 9, mark);
 }
 
 pub fn put_leg(out: &mut [u8], angle: u32, distance: u32)
-    requires { ⌜ 9 ≤ length (now out) ⌝ }
-    ensures { λ r. ⌜ now (out .exit) ≡ bytesOf 3 (pos angle ∷ pos distance ∷ []) ++ drop 9 (now (out .entry)) ⌝ }
+    requires { ⌜ 1 + bodyOf legKind ≤ length (now out) ⌝ }
+    ensures { λ r. ⌜ now (out .exit)
+        ≡ bytesOf legKind (pos angle ∷ pos distance ∷ [])
+        ++ drop (1 + bodyOf legKind) (now (out .entry)) ⌝ }
 {
-    put_kind(out, 3);
+    put_kind(out, LEG);
     put_four(out, 1, angle);
     put_four(out, 5, distance);
 }
 
 pub fn put_close(out: &mut [u8], angle: u32, northing: u32, easting: u32, mark: u32)
-    requires { ⌜ 17 ≤ length (now out) ⌝ }
-    ensures { λ r. ⌜ now (out .exit) ≡ bytesOf 4 (pos angle ∷ pos northing ∷ pos easting ∷ pos mark ∷ []) ++ drop 17 (now (out .entry)) ⌝ }
+    requires { ⌜ 1 + bodyOf closeKind ≤ length (now out) ⌝ }
+    ensures { λ r. ⌜ now (out .exit)
+        ≡ bytesOf closeKind (pos angle ∷ pos northing ∷ pos easting ∷ pos mark ∷ [])
+        ++ drop (1 + bodyOf closeKind) (now (out .entry)) ⌝ }
 {
-    put_kind(out, 4);
+    put_kind(out, CLOSE);
     put_four(out, 1, angle);
     put_four(out, 5, northing);
     put_four(out, 9, easting);

@@ -1,7 +1,7 @@
 -- `lend_on` meets its contract: the part from the place on, lent to the writer of the record's kind, has room for the record, and comes back with it.
 use borrow.Author.Needs.{needs}
 use Rattle.records.specs.Bytes.{bytes}
-use Rattle.records.specs.Record.{recOf, bytesOf, fieldsOf, table}
+use Rattle.records.specs.Record.{recOf, bytesOf, bodyOf, fieldsOf, table}
 use Rattle.records.proofs.Bodies.{project-feet}
 use Rattle.writer.proofs.Ways.{lent, back}
 use Rattle.writer.proofs.lend_on.Statement.{statement}
@@ -20,7 +20,7 @@ part-put-row-end : tie.Need-part-put-row-end
 part-put-row-end c = search needs
 
 put-row-requires : tie.Need-put-row-requires
-unfolding recOf bytesOf fieldsOf table bytes
+unfolding recOf bytesOf bodyOf fieldsOf table bytes
 put-row-requires c κs = search lent
 
 enum-known-given-2 : tie.Need-enum-known-given-2
@@ -36,7 +36,7 @@ part-put-project-end : tie.Need-part-put-project-end
 part-put-project-end c = search needs
 
 put-project-requires : tie.Need-put-project-requires
-unfolding recOf bytesOf fieldsOf table bytes
+unfolding recOf bytesOf bodyOf fieldsOf table bytes
 put-project-requires c κs = search (lent, project-feet)
 
 enum-known-given-3 : tie.Need-enum-known-given-3
@@ -52,7 +52,7 @@ part-put-start-end : tie.Need-part-put-start-end
 part-put-start-end c = search needs
 
 put-start-requires : tie.Need-put-start-requires
-unfolding recOf bytesOf fieldsOf table bytes
+unfolding recOf bytesOf bodyOf fieldsOf table bytes
 put-start-requires c κs = search lent
 
 enum-known-given-4 : tie.Need-enum-known-given-4
@@ -68,7 +68,7 @@ part-put-leg-end : tie.Need-part-put-leg-end
 part-put-leg-end c = search needs
 
 put-leg-requires : tie.Need-put-leg-requires
-unfolding recOf bytesOf fieldsOf table bytes
+unfolding recOf bytesOf bodyOf fieldsOf table bytes
 put-leg-requires c κs = search lent
 
 enum-known-given-5 : tie.Need-enum-known-given-5
@@ -84,42 +84,42 @@ part-put-close-end : tie.Need-part-put-close-end
 part-put-close-end c = search needs
 
 put-close-requires : tie.Need-put-close-requires
-unfolding recOf bytesOf fieldsOf table bytes
+unfolding recOf bytesOf bodyOf fieldsOf table bytes
 put-close-requires c κs = search lent
 
 same-length : tie.Need-same-length
 same-length c = search needs
 
 returns : tie.Need-returns
-unfolding recOf bytesOf fieldsOf table bytes
+unfolding recOf bytesOf bodyOf fieldsOf table bytes
 returns c = search back
 
 same-length-2 : tie.Need-same-length-2
 same-length-2 c = search needs
 
 returns-2 : tie.Need-returns-2
-unfolding recOf bytesOf fieldsOf table bytes
+unfolding recOf bytesOf bodyOf fieldsOf table bytes
 returns-2 c = search back
 
 same-length-3 : tie.Need-same-length-3
 same-length-3 c = search needs
 
 returns-3 : tie.Need-returns-3
-unfolding recOf bytesOf fieldsOf table bytes
+unfolding recOf bytesOf bodyOf fieldsOf table bytes
 returns-3 c = search back
 
 same-length-4 : tie.Need-same-length-4
 same-length-4 c = search needs
 
 returns-4 : tie.Need-returns-4
-unfolding recOf bytesOf fieldsOf table bytes
+unfolding recOf bytesOf bodyOf fieldsOf table bytes
 returns-4 c = search back
 
 same-length-5 : tie.Need-same-length-5
 same-length-5 c = search needs
 
 returns-5 : tie.Need-returns-5
-unfolding recOf bytesOf fieldsOf table bytes
+unfolding recOf bytesOf bodyOf fieldsOf table bytes
 returns-5 c = search back
 
 pub lend-on-spec : {M : Type 1} → statement M

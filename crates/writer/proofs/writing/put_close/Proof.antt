@@ -1,6 +1,7 @@
 -- `put_close` meets its contract: the kind's byte, then each field behind the one before.
 use denote.Ref.{now}
 use borrow.Author.Needs.{needs}
+use Rattle.records.specs.Record.{bodyOf, fieldsOf, table}
 use Rattle.writer.proofs.Stores.{close-stored}
 use Rattle.writer.proofs.writing.put_close.Statement.{statement}
 use Rattle.writer.proofs.writing.put_close.Tie as tie
@@ -9,21 +10,26 @@ put-kind-requires : tie.Need-put-kind-requires
 put-kind-requires c κs = search needs
 
 put-four-requires : tie.Need-put-four-requires
+unfolding bodyOf fieldsOf table
 put-four-requires c κs = search needs
 
 put-four-requires-2 : tie.Need-put-four-requires-2
+unfolding bodyOf fieldsOf table
 put-four-requires-2 c κs = search needs
 
 put-four-requires-3 : tie.Need-put-four-requires-3
+unfolding bodyOf fieldsOf table
 put-four-requires-3 c κs = search needs
 
 put-four-requires-4 : tie.Need-put-four-requires-4
+unfolding bodyOf fieldsOf table
 put-four-requires-4 c κs = search needs
 
 same-length : tie.Need-same-length
 same-length c = search needs
 
 returns : tie.Need-returns
+unfolding bodyOf fieldsOf table
 returns c =
     let d = c .before .before in
     let e = d .before .before .before .before in

@@ -1,6 +1,7 @@
 -- `put_row` meets its contract: the kind's byte, then each field behind the one before.
 use denote.Ref.{now}
 use borrow.Author.Needs.{needs}
+use Rattle.records.specs.Record.{bodyOf, fieldsOf, table}
 use Rattle.writer.proofs.Stores.{row-stored}
 use Rattle.writer.proofs.writing.put_row.Statement.{statement}
 use Rattle.writer.proofs.writing.put_row.Tie as tie
@@ -9,15 +10,18 @@ put-kind-requires : tie.Need-put-kind-requires
 put-kind-requires c κs = search needs
 
 put-two-requires : tie.Need-put-two-requires
+unfolding bodyOf fieldsOf table
 put-two-requires c κs = search needs
 
 put-four-requires : tie.Need-put-four-requires
+unfolding bodyOf fieldsOf table
 put-four-requires c κs = search needs
 
 same-length : tie.Need-same-length
 same-length c = search needs
 
 returns : tie.Need-returns
+unfolding bodyOf fieldsOf table
 returns c =
     let d = c .before .before in
     let e = d .before .before .before .before in
