@@ -1,5 +1,7 @@
--- Writing, then reading: fields that no refusal tried before 8 meets, written as a tape, read back as the same fields. It is true because every range
--- of the table lies within what its field can write, so that each number comes back from its bytes, and a record has as many bytes as its kind says.
+-- Writing, then reading: fields that no refusal tried before 8 meets, written as a tape, read back
+-- as the same fields. It is true because every range of the table lies within what its field can
+-- write, so that each number comes back from its bytes, and a record has as many bytes as its kind
+-- says.
 use Prim.Native.Nat.{ℕ, _+_, _-_, _/_, _≤_, _<_}
 use native.Mathlib.Omega.{arith}
 use native.Mathlib.Nat.{add-comm, add-right-comm, div-div-eq-div-mul}
@@ -14,9 +16,12 @@ use lib.Signed.{leZ, leZ-yes, ltZ-yes}
 use borrow.Author.Tests.{lt-ltb, le-ltb}
 use Rattle.whole.specs.Order.{_≤ᶻ_, _<ᶻ_}
 use Rattle.whole.proofs.Diff.{int}
-use Rattle.records.specs.Bytes.{Width, two, four, size, num, bytes, Coding, unsigned, twosComplement, room, meant, written}
-use Rattle.records.specs.Record.{Field, Kind, Rec, table, look, fieldsOf, total, numbers, inRanges, spell, bodyOf, goodOf, bytesOf, numbersOf}
-use Rattle.tape.specs.Tape.{Next, walk, stepOf, judge, start, readingOf, recordsFrom, recordsOf, tapeOf, runOf, fieldsRead}
+use Rattle.records.specs.Bytes.{Width, two, four, size, num, bytes, Coding, unsigned}
+use Rattle.records.specs.Bytes.{twosComplement, room, meant, written}
+use Rattle.records.specs.Record.{Field, Kind, Rec, table, look, fieldsOf, total, numbers, inRanges}
+use Rattle.records.specs.Record.{spell, bodyOf, goodOf, bytesOf, numbersOf}
+use Rattle.tape.specs.Tape.{Next, walk, stepOf, judge, start, readingOf, recordsFrom}
+use Rattle.tape.specs.Tape.{recordsOf, tapeOf, runOf, fieldsRead}
 use Rattle.tape.specs.declared.State.{State}
 use Rattle.tape.specs.declared.Reading.the-variants.{Reads}
 use Rattle.tape.proofs.Numbers.{num-drop}
@@ -34,7 +39,8 @@ ceiling unsigned w = pos (room w)
 ceiling twosComplement w = pos (room w / 2)
 
 -- what is written of such a number is one of its width, and is meant as the number again
-meant-written : (c : Coding) (w : Width) (z : ℤ) → floor c w <ᶻ z → z <ᶻ ceiling c w → (written w z < room w) × (meant c w (written w z) ≡ z)
+meant-written : (c : Coding) (w : Width) (z : ℤ) → floor c w <ᶻ z → z <ᶻ ceiling c w
+    → (written w z < room w) × (meant c w (written w z) ≡ z)
 unfolding meant written
 meant-written unsigned w (pos n) g h = (omega int, refl)
 meant-written unsigned w (negsuc n) g h = absurd (omega int)
@@ -71,11 +77,14 @@ look-fits (r ∷ rows) k h = by-test Fit (eqb k (r .kind)) (λ t. h .0) (λ t. l
 abbrev InRange : Field → ℤ → Type 0
 InRange f z = (leZ (f .low) z && leZ z (f .high)) ≡ true
 
-first-and-rest : (f : Field) (fs : List Field) (v : ℤ) (vs : List ℤ) → inRanges (f ∷ fs) (v ∷ vs) ≡ true → InRange f v × (inRanges fs vs ≡ true)
-first-and-rest f fs v vs e = and-eq-true-iff (leZ (f .low) v && leZ v (f .high)) (inRanges fs vs) .0 e
+first-and-rest : (f : Field) (fs : List Field) (v : ℤ) (vs : List ℤ)
+    → inRanges (f ∷ fs) (v ∷ vs) ≡ true → InRange f v × (inRanges fs vs ≡ true)
+first-and-rest f fs v vs e =
+    and-eq-true-iff (leZ (f .low) v && leZ v (f .high)) (inRanges fs vs) .0 e
 
 in-range : (f : Field) (z : ℤ) → Fits f → InRange f z
-    → (written (f .width) z < room (f .width)) × (meant (f .coding) (f .width) (written (f .width) z) ≡ z)
+    → (written (f .width) z < room (f .width)) ×
+    (meant (f .coding) (f .width) (written (f .width) z) ≡ z)
 in-range f z fits e =
     let i = and-eq-true-iff (leZ (f .low) z) (leZ z (f .high)) .0 e in
     let low : f .low ≤ᶻ z = leZ-yes (rw (i .0) tt) in
@@ -92,18 +101,33 @@ length-bytes four n = refl
 num-bytes : (w : Width) (n : ℕ) (l : List ℕ) → n < room w → num w (bytes w n ++ l) 0 ≡ n
 unfolding num bytes
 num-bytes two n l h = omega arith
-num-bytes four n l h = rw (← div-div-eq-div-mul n 65536 256, ← div-div-eq-div-mul n 256 256) (omega arith)
+num-bytes four n l h =
+    rw (← div-div-eq-div-mul n 65536 256, ← div-div-eq-div-mul n 256 256) (omega arith)
 
 -- ---- a record and its bytes
--- the numbers from place k + n on are those from place k on of the rest; past the bytes of one number, those of what follows it
-numbers-drop : (fs : List Field) (n : ℕ) (l : List ℕ) (k : ℕ) → numbers fs l (k + n) ≡ numbers fs (drop n l) k
+-- the numbers from place k + n on are those from place k on of the rest; past the bytes of one
+-- number, those of what follows it
+numbers-drop : (fs : List Field) (n : ℕ) (l : List ℕ) (k : ℕ)
+    → numbers fs l (k + n) ≡ numbers fs (drop n l) k
 numbers-drop [] n l k = refl
-numbers-drop (f ∷ fs) n l k = rw (num-drop, add-comm n k, add-right-comm k n (size (f .width)), numbers-drop fs n l (k + size (f .width)))
+numbers-drop (f ∷ fs) n l k =
+    rw (
+      num-drop,
+      add-comm n k,
+      add-right-comm k n (size (f .width)),
+      numbers-drop fs n l (k + size (f .width)),
+    )
 
-numbers-past : (fs : List Field) (w : Width) (n : ℕ) (l : List ℕ) → numbers fs (bytes w n ++ l) (0 + size w) ≡ numbers fs l 0
-numbers-past fs w n l = rw (numbers-drop fs (size w) (bytes w n ++ l) 0, drop-at (bytes w n) l (size w) (length-bytes w n))
+numbers-past : (fs : List Field) (w : Width) (n : ℕ) (l : List ℕ)
+    → numbers fs (bytes w n ++ l) (0 + size w) ≡ numbers fs l 0
+numbers-past fs w n l =
+    rw (
+      numbers-drop fs (size w) (bytes w n ++ l) 0,
+      drop-at (bytes w n) l (size w) (length-bytes w n),
+    )
 
-numbers-spell : (fs : List Field) (vs : List ℤ) (l : List ℕ) → Fit fs → inRanges fs vs ≡ true → numbers fs (spell fs vs ++ l) 0 ≡ vs
+numbers-spell : (fs : List Field) (vs : List ℤ) (l : List ℕ) → Fit fs → inRanges fs vs ≡ true
+    → numbers fs (spell fs vs ++ l) 0 ≡ vs
 numbers-spell [] [] l h e = refl
 numbers-spell [] (v ∷ vs) l h e = cc
 numbers-spell (f ∷ fs) [] l h e = cc
@@ -111,12 +135,20 @@ numbers-spell (f ∷ fs) (v ∷ vs) l h e =
     let t = first-and-rest f fs v vs e in
     let i = in-range f v (h .0) (t .0) in
     let m = spell fs vs ++ l in
-    rw (append-assoc, num-bytes _ _ m (i .0), i .1, numbers-past fs (f .width) _ m, numbers-spell fs vs l (h .1) (t .1))
+    rw (
+      append-assoc,
+      num-bytes _ _ m (i .0),
+      i .1,
+      numbers-past fs (f .width) _ m,
+      numbers-spell fs vs l (h .1) (t .1),
+    )
 
-length-spell : (fs : List Field) (vs : List ℤ) → inRanges fs vs ≡ true → length (spell fs vs) ≡ total fs
+length-spell : (fs : List Field) (vs : List ℤ) → inRanges fs vs ≡ true
+    → length (spell fs vs) ≡ total fs
 length-spell [] vs e = refl
 length-spell (f ∷ fs) [] e = cc
-length-spell (f ∷ fs) (v ∷ vs) e = rw (length-append, length-bytes, length-spell fs vs (first-and-rest f fs v vs e .1))
+length-spell (f ∷ fs) (v ∷ vs) e =
+    rw (length-append, length-bytes, length-spell fs vs (first-and-rest f fs v vs e .1))
 
 -- bytes p that are still to pass are passed over
 past : (p l : List ℕ)
@@ -133,7 +165,9 @@ module _ (k : ℕ) (vs : List ℤ) (l : List ℕ) (good : goodOf k vs ≡ true) 
 
   pub numbers-back : numbersOf k (bytesOf k vs ++ l) ≡ vs
   unfolding numbersOf bytesOf goodOf fieldsOf
-  numbers-back = numbers-drop (fieldsOf k) 1 (bytesOf k vs ++ l) 0 ∙ numbers-spell (fieldsOf k) vs l (look-fits table k table-fits) good
+  numbers-back =
+      numbers-drop (fieldsOf k) 1 (bytesOf k vs ++ l) 0 ∙ numbers-spell (fieldsOf k) vs l
+      (look-fits table k table-fits) good
 
   step-back : (st : State) → stepOf st (bytesOf k vs ++ l) ≡ judge st k true vs
   unfolding stepOf bytesOf
@@ -141,11 +175,16 @@ module _ (k : ℕ) (vs : List ℤ) (l : List ℕ) (good : goodOf k vs ≡ true) 
       let whole : bodyOf k < length (bytesOf k vs ++ l) = omega (arith, length-append (bytesOf k vs) l, length-body) in
       rw (lt-ltb _ _ whole, numbers-back)
 
-  walk-back : (st st′ : State) (at : ℕ) → Next st′ ≡ judge st k true vs → walk st at 0 (bytesOf k vs ++ l) ≡ walk st′ (at + 1 + bodyOf k) 0 l
+  walk-back : (st st′ : State) (at : ℕ) → Next st′ ≡ judge st k true vs
+      → walk st at 0 (bytesOf k vs ++ l) ≡ walk st′ (at + 1 + bodyOf k) 0 l
   unfolding walk bytesOf
-  walk-back st st′ at e = rw (step-back st, ← e, ← length-body) (past (spell (fieldsOf k) vs) l .0 st′ _)
+  walk-back st st′ at e =
+      rw (step-back st, ← e, ← length-body) (past (spell (fieldsOf k) vs) l .0 st′ _)
 
-  records-back : recordsFrom 0 (bytesOf k vs ++ l) ≡ record { kind = k; values = vs } ∷ recordsFrom 0 l
+  records-back : recordsFrom 0 (bytesOf k vs ++ l) ≡ record {
+    kind = k;
+    values = vs;
+  } ∷ recordsFrom 0 l
   unfolding recordsFrom bytesOf
   records-back = rw (numbers-back, ← length-body, past (spell (fieldsOf k) vs) l .1)
 
@@ -163,6 +202,7 @@ back-from (r ∷ rs) st at a e =
     (walk-back k vs (tapeOf rs) good st (w .0) at (w .1) ∙ i .0, rw (records-back k vs (tapeOf rs) good, i .1))
 
 -- fields that no refusal tried before 8 meets, written as a tape, read back as the same fields
-pub same-records : (rs : List Rec) (a : State) → fieldsRead rs ≡ Reads a → (readingOf (tapeOf rs) ≡ Reads a) × (recordsOf (tapeOf rs) ≡ rs)
+pub same-records : (rs : List Rec) (a : State) → fieldsRead rs ≡ Reads a
+    → (readingOf (tapeOf rs) ≡ Reads a) × (recordsOf (tapeOf rs) ≡ rs)
 unfolding readingOf
 same-records rs a e = back-from rs start 0 a e

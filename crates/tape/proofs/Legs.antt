@@ -1,5 +1,6 @@
--- The walk along the legs of a tape that reads. What stands at the place of leg k is the leg, or the close after the last; its angle and
--- distance are the fields' own, and the next leg stands where the sight says. Callers know no other law of places.
+-- The walk along the legs of a tape that reads. What stands at the place of leg k is the leg, or
+-- the close after the last; its angle and distance are the fields' own, and the next leg stands
+-- where the sight says. Callers know no other law of places.
 use Prim.Native.Nat.{ℕ, zero, suc, _+_, _≤_, _<_}
 use native.Mathlib.Omega.{arith}
 use native.Mathlib.Nat.{add-zero}
@@ -11,29 +12,37 @@ use lib.ListN.{length, getD, drop, length-drop, List·getD-map}
 use lib.Seq.{getD-drop, drop-drop}
 use borrow.Author.Tests.{le-leb, eqb-true}
 use Rattle.records.specs.Bytes.{four, num}
-use Rattle.records.specs.Record.{Rec, rowKind, projectKind, startKind, legKind, closeKind, fieldsOf, table, bodyOf}
+use Rattle.records.specs.Record.{Rec, rowKind, projectKind, startKind, legKind, closeKind, fieldsOf}
+use Rattle.records.specs.Record.{table, bodyOf}
 use Rattle.tape.specs.Tape.{isLeg, recordsOf}
-use Rattle.tape.specs.Fields.{pick, none, placeOf, turns, angleOf, distanceOf, picked, AllBytes, DoesRead}
+use Rattle.tape.specs.Fields.{pick, none, placeOf, turns, angleOf, distanceOf, picked}
+use Rattle.tape.specs.Fields.{AllBytes, DoesRead}
 use Rattle.tape.specs.Fields.{fieldsOf as named}
 use Rattle.tape.specs.Legs.{sightAt, Rest, Legs, last, leg, Order, row, opens, LegAt}
 use Rattle.tape.proofs.Ordered.{order-of}
-use Rattle.tape.proofs.Picks.{pick-yes, pick-no, skips, place-on, place-here, leg-turns, close-turns}
+use Rattle.tape.proofs.Picks.{pick-yes, pick-no, skips, place-on, place-here, leg-turns}
+use Rattle.tape.proofs.Picks.{close-turns}
 use Rattle.tape.proofs.Rest.{kind-there, whole-there, rest-start, rest-next, number-there}
 
--- ---- the order: as many records turn as there are legs, and one more; the first of them are the legs
+-- ---- the order: as many records turn as there are legs, and one more; the first of them are the
+-- legs
 legs-long : {rs : List Rec} → Legs rs → length (pick turns rs) ≡ suc (length (pick isLeg rs))
 unfolding pick
 legs-long (last r e) = rw e
-legs-long (leg r {rs} e l) = rw (pick-yes turns r rs (leg-turns (r .kind) e), pick-yes isLeg r rs e, legs-long l)
+legs-long (leg r {rs} e l) =
+    rw (pick-yes turns r rs (leg-turns (r .kind) e), pick-yes isLeg r rs e, legs-long l)
 
--- a record that is no leg and does not turn changes neither list, and one that is a leg is the first of both
+-- a record that is no leg and does not turn changes neither list, and one that is a leg is the
+-- first of both
 abbrev Same : List Rec → Type 0
-Same rs = (k : ℕ) → k < length (pick isLeg rs) → getD (pick turns rs) k none ≡ getD (pick isLeg rs) k none
+Same rs =
+    (k : ℕ) → k < length (pick isLeg rs) → getD (pick turns rs) k none ≡ getD (pick isLeg rs) k none
 
 same-leg : (r : Rec) (rs : List Rec) → isLeg (r .kind) ≡ true → Same rs → Same (r ∷ rs)
 same-leg r rs e ih = rw (pick-yes turns r rs (leg-turns (r .kind) e), pick-yes isLeg r rs e) go
   where
-    go : (k : ℕ) → k < suc (length (pick isLeg rs)) → getD (r ∷ pick turns rs) k none ≡ getD (r ∷ pick isLeg rs) k none
+    go : (k : ℕ) → k < suc (length (pick isLeg rs))
+        → getD (r ∷ pick turns rs) k none ≡ getD (r ∷ pick isLeg rs) k none
     go zero low = refl
     go (suc k) low = ih k (omega arith)
 
@@ -42,8 +51,10 @@ unfolding pick
 legs-same (last r e) = λ k low. absurd (omega (arith, ap length (pick-no isLeg r [] (rw e))))
 legs-same (leg r {rs} e l) = same-leg r rs e (legs-same l)
 
-module _ (k : ℕ) (r : Rec) (rs : List Rec) (is : r .kind ≡ k) (still : turns k ≡ false) (none : isLeg k ≡ false) where
-  skip-long : length (pick turns rs) ≡ suc (length (pick isLeg rs)) → length (pick turns (r ∷ rs)) ≡ suc (length (pick isLeg (r ∷ rs)))
+module _ (k : ℕ) (r : Rec) (rs : List Rec) (is : r .kind ≡ k) (still : turns k ≡ false)
+    (none : isLeg k ≡ false) where
+  skip-long : length (pick turns rs) ≡ suc (length (pick isLeg rs))
+      → length (pick turns (r ∷ rs)) ≡ suc (length (pick isLeg (r ∷ rs)))
   skip-long e = rw (skips turns k r rs is still, skips isLeg k r rs is none) e
 
   skip-same : Same rs → Same (r ∷ rs)
@@ -52,12 +63,14 @@ module _ (k : ℕ) (r : Rec) (rs : List Rec) (is : r .kind ≡ k) (still : turns
 pub order-long : {rs : List Rec} → Order rs → length (pick turns rs) ≡ suc (length (pick isLeg rs))
 order-long (row r {rs} e o) = skip-long rowKind r rs e refl refl (order-long o)
 order-long (opens p s l {rs} one two is legs) =
-    skip-long projectKind p _ one refl refl (skip-long startKind s _ two refl refl (legs-long (leg l is legs)))
+    skip-long projectKind p _ one refl refl
+    (skip-long startKind s _ two refl refl (legs-long (leg l is legs)))
 
 order-same : {rs : List Rec} → Order rs → Same rs
 order-same (row r {rs} e o) = skip-same rowKind r rs e refl refl (order-same o)
 order-same (opens p s l {rs} one two is legs) =
-    skip-same projectKind p _ one refl refl (skip-same startKind s _ two refl refl (legs-same (leg l is legs)))
+    skip-same projectKind p _ one refl refl
+    (skip-same startKind s _ two refl refl (legs-same (leg l is legs)))
 
 -- ---- what stands at the place of a leg
 record Front (tape : List ℕ) (k at : ℕ) : Type 0 where
@@ -68,33 +81,52 @@ record Front (tape : List ℕ) (k at : ℕ) : Type 0 where
   kind : (isLeg (r .kind) ≡ true) ⊎ (r .kind ≡ closeKind)
 
 module _ (tape : List ℕ) (k at : ℕ) where
-  head-is : {r : Rec} {rs : List Rec} → r ∷ rs ≡ drop k (pick turns (recordsOf tape)) → getD (pick turns (recordsOf tape)) k none ≡ r
+  head-is : {r : Rec} {rs : List Rec} → r ∷ rs ≡ drop k (pick turns (recordsOf tape))
+      → getD (pick turns (recordsOf tape)) k none ≡ r
   head-is e = sym (rw (← e, add-zero) at (getD-drop k (pick turns (recordsOf tape)) 0 none))
 
-  front-of : {rs : List Rec} → Legs rs → Rest tape at rs → pick turns rs ≡ drop k (pick turns (recordsOf tape)) → Front tape k at
+  front-of : {rs : List Rec} → Legs rs → Rest tape at rs
+      → pick turns rs ≡ drop k (pick turns (recordsOf tape)) → Front tape k at
   front-of (last r e) h less =
-      record { r = r; rs = []; rest = h; is = head-is (rw (pick-yes turns r [] (close-turns (r .kind) e)) at less); kind = inr e }
+      record {
+        r = r;
+        rs = [];
+        rest = h;
+        is = head-is (rw (pick-yes turns r [] (close-turns (r .kind) e)) at less);
+        kind = inr e;
+      }
   front-of (leg r {rs} e l) h less =
-      record { r = r; rs = rs; rest = h; is = head-is (rw (pick-yes turns r rs (leg-turns (r .kind) e)) at less); kind = inl e }
+      record {
+        r = r;
+        rs = rs;
+        rest = h;
+        is = head-is (rw (pick-yes turns r rs (leg-turns (r .kind) e)) at less);
+        kind = inl e;
+      }
 
   front : LegAt tape k at → Front tape k at
   front h = front-of (h .legs) (h .rest) (h .less)
 
 -- a leg, or the close, has bytes enough for a sight, and its numbers are the sight's
 module _ (tape : List ℕ) (at : ℕ) (r : Rec) (rs : List Rec) (h : Rest tape at (r ∷ rs)) where
-  angle-of : (k : ℕ) → r .kind ≡ k → 8 ≤ bodyOf k → num four tape (at + 1) ≡ angleOf r → sightAt tape at .angle ≡ angleOf r
+  angle-of : (k : ℕ) → r .kind ≡ k → 8 ≤ bodyOf k → num four tape (at + 1) ≡ angleOf r
+      → sightAt tape at .angle ≡ angleOf r
   unfolding sightAt
   angle-of k e long i =
-      rw (le-leb (at + 1 + bodyOf legKind) (length tape) (unfold bodyOf fieldsOf table in (omega (arith, rw e at (whole-there tape at r rs h))))) i
+      let whole = rw e at (whole-there tape at r rs h) in
+      let room : at + 1 + bodyOf legKind ≤ length tape = unfold bodyOf fieldsOf table in (omega arith) in
+      rw (le-leb (at + 1 + bodyOf legKind) (length tape) room) i
 
   angle-is : (isLeg (r .kind) ≡ true) ⊎ (r .kind ≡ closeKind) → sightAt tape at .angle ≡ angleOf r
   unfolding angleOf bodyOf fieldsOf table
   angle-is =
       ⊎-elim
       (λ (t : isLeg (r .kind) ≡ true). let e = eqb-true (r .kind) legKind t in
-      angle-of legKind e (omega arith) (sym (number-there tape at r rs h legKind 0 (at + 1) e (omega arith) refl (omega arith))))
+      angle-of legKind e (omega arith)
+      (sym (number-there tape at r rs h legKind 0 (at + 1) e (omega arith) refl (omega arith))))
       (λ (e : r .kind ≡ closeKind).
-      angle-of closeKind e (omega arith) (sym (number-there tape at r rs h closeKind 0 (at + 1) e (omega arith) refl (omega arith))))
+      angle-of closeKind e (omega arith)
+      (sym (number-there tape at r rs h closeKind 0 (at + 1) e (omega arith) refl (omega arith))))
 
   module _ (t : isLeg (r .kind) ≡ true) where
     is-leg : r .kind ≡ legKind
@@ -107,34 +139,47 @@ module _ (tape : List ℕ) (at : ℕ) (r : Rec) (rs : List Rec) (h : Rest tape a
     unfolding sightAt distanceOf fieldsOf table
     distance-is =
         rw (le-leb (at + 1 + bodyOf legKind) (length tape) fits)
-        (sym (number-there tape at r rs h legKind 1 (at + 5) is-leg (omega arith) refl (omega arith)))
+        (sym
+        (number-there tape at r rs h legKind 1 (at + 5) is-leg (omega arith) refl (omega arith)))
 
     next-is : sightAt tape at .next ≡ at + 1 + bodyOf (r .kind)
     unfolding sightAt
     next-is = rw (le-leb (at + 1 + bodyOf legKind) (length tape) fits, kind-there tape at r rs h, t)
 
 -- ---- leg 0 stands where the line begins
-first-at : (tape : List ℕ) {rs : List Rec} → Order rs → (at : ℕ) → Rest tape at rs → pick turns rs ≡ pick turns (recordsOf tape)
+first-at : (tape : List ℕ) {rs : List Rec} → Order rs → (at : ℕ) → Rest tape at rs
+    → pick turns rs ≡ pick turns (recordsOf tape)
     → LegAt tape 0 (placeOf isLeg at rs)
 first-at tape (row r {rs} e o) at h same =
     rw (place-on isLeg r rs at (rw e))
-    (first-at tape o (at + 1 + bodyOf (r .kind)) (rest-next tape at r rs h) (rw (skips turns rowKind r rs e refl) at same))
+    (first-at tape o (at + 1 + bodyOf (r .kind)) (rest-next tape at r rs h)
+    (rw (skips turns rowKind r rs e refl) at same))
 first-at tape (opens p s l {rs} one two is legs) at h same =
     let g = rest-next tape at p (s ∷ l ∷ rs) h in
-    rw (place-on isLeg p (s ∷ l ∷ rs) at (rw one), place-on isLeg s (l ∷ rs) _ (rw two), place-here isLeg l rs _ is)
+    rw (
+      place-on isLeg p (s ∷ l ∷ rs) at (rw one),
+      place-on isLeg s (l ∷ rs) _ (rw two),
+      place-here isLeg l rs _ is,
+    )
     (record {
       rs = l ∷ rs;
       rest = rest-next tape _ s (l ∷ rs) g;
       legs = leg l is legs;
-      less = rw (skips turns projectKind p (s ∷ l ∷ rs) one refl, skips turns startKind s (l ∷ rs) two refl) at same;
+      less =
+          rw (
+            skips turns projectKind p (s ∷ l ∷ rs) one refl,
+            skips turns startKind s (l ∷ rs) two refl,
+          ) at same;
     })
 
-pub leg-first : (tape : List ℕ) → AllBytes tape → DoesRead tape → LegAt tape 0 (named tape .opening .line)
+pub leg-first : (tape : List ℕ) → AllBytes tape → DoesRead tape
+    → LegAt tape 0 (named tape .opening .line)
 unfolding picked
 leg-first tape b d = first-at tape (order-of tape d .order) 0 (rest-start tape b d) refl
 
 -- ---- the angle of leg k, and the closing one
-pub leg-angle : (tape : List ℕ) (k at : ℕ) → LegAt tape k at → sightAt tape at .angle ≡ getD (named tape .line .angles) k 0
+pub leg-angle : (tape : List ℕ) (k at : ℕ) → LegAt tape k at
+    → sightAt tape at .angle ≡ getD (named tape .line .angles) k 0
 unfolding picked angleOf
 leg-angle tape k at h =
     let f = front tape k at h in
@@ -142,23 +187,33 @@ leg-angle tape k at h =
     ∙ sym (List·getD-map angleOf (pick turns (recordsOf tape)) k none ∙ ap angleOf (f .is))
 
 -- ---- the next leg, and the distance, where there is one more
-module _ (tape : List ℕ) (d : DoesRead tape) (k at : ℕ) (h : LegAt tape k at) (low : k < named tape .line .legs) where
+module _ (tape : List ℕ) (d : DoesRead tape) (k at : ℕ) (h : LegAt tape k at)
+    (low : k < named tape .line .legs) where
   abbrev all : List Rec
   all = recordsOf tape
 
   some-left : 0 < length (pick isLeg (h .rs))
   unfolding picked
   some-left =
-      omega (arith, legs-long (h .legs), ap length (h .less), order-long (order-of tape d .order), length-drop k (pick turns all))
+      omega (
+        arith,
+        legs-long (h .legs),
+        ap length (h .less),
+        order-long (order-of tape d .order),
+        length-drop k (pick turns all),
+      )
 
   onward : {rs : List Rec} → Legs rs → rs ≡ h .rs
-      → LegAt tape (k + 1) (sightAt tape at .next) × (sightAt tape at .distance ≡ distanceOf (getD (pick turns all) k none))
+      → LegAt tape (k + 1) (sightAt tape at .next)
+      × (sightAt tape at .distance ≡ distanceOf (getD (pick turns all) k none))
   onward (last r e) same =
-      let none : pick isLeg (h .rs) ≡ [] = rw (← same) (unfold pick in (pick-no isLeg r [] (rw e))) in
+      let no-leg : pick isLeg (r ∷ []) ≡ [] = unfold pick in (pick-no isLeg r [] (rw e)) in
+      let none : pick isLeg (h .rs) ≡ [] = rw (← same) no-leg in
       absurd (omega (arith, some-left, ap length none))
   onward (leg r {rs} e l) same =
       let rest : Rest tape at (r ∷ rs) = rw same (h .rest) in
-      let less : r ∷ pick turns rs ≡ drop k (pick turns all) = sym (pick-yes turns r rs (leg-turns (r .kind) e)) ∙ rw same (h .less) in (
+      let turns-first = pick-yes turns r rs (leg-turns (r .kind) e) in
+      let less : r ∷ pick turns rs ≡ drop k (pick turns all) = sym turns-first ∙ rw same (h .less) in (
         record {
           rs = rs;
           rest = rw (next-is tape at r rs rest e) (rest-next tape at r rs rest);

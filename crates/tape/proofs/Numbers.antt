@@ -1,4 +1,5 @@
--- Numbers as bytes spell them, for `search`: read from the rest of a list, put together from halves, and meant with a sign.
+-- Numbers as bytes spell them, for `search`: read from the rest of a list, put together from
+-- halves, and meant with a sign.
 use Prim.Native.Nat.{ℕ, suc, _+_, _-_, _*_, _≤_, _<_}
 use native.Mathlib.Omega.{arith}
 use native.Mathlib.Numerals.{add-one}
@@ -34,7 +35,8 @@ pub meant-plain : (v : ℤ) (n m : ℕ) → v ≡ pos n → n ≡ m → n < 3276
 unfolding meant
 meant-plain v n m e f h = e ∙ rw (← f, lt-ltb n 32768 h)
 
-pub meant-below : (v u : ℤ) (n m k : ℕ) → v ≡ negℤ u → u ≡ pos k → k ≡ 65536 - n → n ≡ m → n < 65536 → 32768 ≤ n → v ≡ meant twosComplement two m
+pub meant-below : (v u : ℤ) (n m k : ℕ) → v ≡ negℤ u → u ≡ pos k → k ≡ 65536 - n → n ≡ m
+    → n < 65536 → 32768 ≤ n → v ≡ meant twosComplement two m
 unfolding meant
 meant-below v u n m k e f g h i j =
     let s : k ≡ suc (65535 - n) = omega arith in

@@ -1,6 +1,6 @@
--- The parts of a tape. Rows follow each other before an end that is known at the start, so that each place is so many rows on; legs
--- follow each other record by record; and the parts follow each other, so that the reading of the whole is that of the first part
--- that is refused, or of all.
+-- The parts of a tape. Rows follow each other before an end that is known at the start, so that
+-- each place is so many rows on; legs follow each other record by record; and the parts follow each
+-- other, so that the reading of the whole is that of the first part that is refused, or of all.
 use Prim.Native.Nat.{ℕ, _+_, _-_, _*_, _≤_, _<_}
 use native.Mathlib.Decide.{decLt, ℕ-discrete}
 use native.Mathlib.Omega.{arith}
@@ -12,17 +12,21 @@ use lib.Dec.{eqb, ltb}
 use lib.ListN.{length, getD, List·getD-eq-default}
 use borrow.Author.Tests.{lt-ltb, le-ltb, eq-eqb, ne-eqb, eqb-true}
 use Rattle.records.specs.Record.{bodyOf, fieldsOf, table}
-use Rattle.tape.specs.Tape.{atRows, afterProject, lineBegun, closed, isLeg, Stop, mayCome, roomOf, start, readingOf}
-use Rattle.tape.specs.Passing.{cursor, onward, past, pastRow, pastLeg, Passes, InLine, Rowed, Opened, Walked}
+use Rattle.tape.specs.Tape.{atRows, afterProject, lineBegun, closed, isLeg, Stop, mayCome}
+use Rattle.tape.specs.Tape.{roomOf, start, readingOf}
+use Rattle.tape.specs.Passing.{cursor, onward, past, pastRow, pastLeg, Passes, InLine, Rowed}
+use Rattle.tape.specs.Passing.{Opened, Walked}
 use Rattle.tape.specs.declared.State.{State}
 use Rattle.tape.specs.declared.Cursor.{Cursor}
 use Rattle.tape.specs.declared.Passed.{Passed}
 use Rattle.tape.specs.declared.Reading.{Reading}
 use Rattle.tape.specs.declared.Reading.the-variants.{Refused, Reads}
 use Rattle.tape.proofs.Walk.{no as never, walk-stop, walk-closed}
-use Rattle.tape.proofs.Passing.{fails, goes-on, other-kind, one-too-many, cut-short, row-comes, leg-low}
+use Rattle.tape.proofs.Passing.{fails, goes-on, other-kind, one-too-many, cut-short}
+use Rattle.tape.proofs.Passing.{row-comes, leg-low}
 
--- ---- rows in a run: so many are read, seven bytes each, and they stand before the end that the limit and the tape leave them
+-- ---- rows in a run: so many are read, seven bytes each, and they stand before the end that the
+-- limit and the tape leave them
 pub record Along (s : List ℕ) (end : ℕ) (c : Cursor) : Type 0 where
   pub place : c .at ≡ 7 * c .st .rows
   pub within : c .at ≤ length s
@@ -32,7 +36,8 @@ pub record Along (s : List ℕ) (end : ℕ) (c : Cursor) : Type 0 where
   pub phase : c .st .phase ≡ atRows
   pub same : onward s c ≡ readingOf s
 
-pub rows-begin : (s : List ℕ) (end bytes : ℕ) → bytes ≡ length s - 6 → end ≤ bytes → end ≤ 4200 → (end < 4200 → end ≡ bytes)
+pub rows-begin : (s : List ℕ) (end bytes : ℕ) → bytes ≡ length s - 6 → end ≤ bytes → end ≤ 4200
+    → (end < 4200 → end ≡ bytes)
     → Along s end (cursor 0 start)
 unfolding readingOf
 rows-begin s end bytes b e f g =
@@ -74,11 +79,13 @@ module _ (s : List ℕ) (end : ℕ) (c : Cursor) (a : Along s end c) where
           | no h ↦ omega arith
         ]
 
-  pub row-less : (d : Cursor) → d ≡ pastRow s c → c .at + 7 ≤ length s → length s - d .at < length s - c .at
+  pub row-less : (d : Cursor) → d ≡ pastRow s c → c .at + 7 ≤ length s
+      → length s - d .at < length s - c .at
   row-less d e h = omega (arith, ap (λ (x : Cursor). x .at) e)
 
   -- past one more
-  pub row-run : (n : ℕ) (d : Cursor) → Passes s c n (pastRow s c) → n ≡ 0 → d ≡ pastRow s c → Along s end d
+  pub row-run : (n : ℕ) (d : Cursor) → Passes s c n (pastRow s c) → n ≡ 0 → d ≡ pastRow s c
+      → Along s end d
   unfolding bodyOf fieldsOf table
   row-run n d h z e =
       rw e
@@ -93,7 +100,8 @@ module _ (s : List ℕ) (end : ℕ) (c : Cursor) (a : Along s end c) where
       })
 
   -- a row that is refused ends the run there
-  pub rows-stopped : (n : ℕ) (d : Cursor) → Passes s c n d → (n ≡ 0 → ⊥) → Rowed s (record { number = n; cursor = c })
+  pub rows-stopped : (n : ℕ) (d : Cursor) → Passes s c n d → (n ≡ 0 → ⊥)
+      → Rowed s (record { number = n; cursor = c })
   rows-stopped n d h z =
       record {
         same = sym (a .same) ∙ h .same ∙ rw (ne-eqb n 0 z);
@@ -101,9 +109,12 @@ module _ (s : List ℕ) (end : ℕ) (c : Cursor) (a : Along s end c) where
         none = λ y. absurd (z y);
       }
 
-  -- and so does one after the end, which is cut short or one too many; where none stands the run is over
-  module _ (n : ℕ) (r : Bool) (e : r ≡ cond (ltb (c .at) end) (eqb (getD s (c .at) 0) 5) false) (f : r ≡ false)
-      (g : n ≡ cond (ltb (c .at) (length s)) (cond (eqb (getD s (c .at) 0) 5) (cond (ltb (c .st .rows) 600) 2 5) 0) 0) where
+  -- and so does one after the end, which is cut short or one too many; where none stands the run is
+  -- over
+  module _ (n : ℕ) (r : Bool) (e : r ≡ cond (ltb (c .at) end) (eqb (getD s (c .at) 0) 5) false)
+      (f : r ≡ false)
+      (g : n ≡ cond (ltb (c .at) (length s))
+      (cond (eqb (getD s (c .at) 0) 5) (cond (ltb (c .st .rows) 600) 2 5) 0) 0) where
     over : n ≡ 0 → (getD s (c .at) 0 ≡ 5 → ⊥) → Rowed s (record { number = n; cursor = c })
     over z i = record { same = rw z (sym (a .same)); phase = a .phase; none = λ y. i }
 
@@ -111,16 +122,19 @@ module _ (s : List ℕ) (end : ℕ) (c : Cursor) (a : Along s end c) where
     unfolding roomOf bodyOf fieldsOf table
     cut i low l =
         let h = none-stands r e f i in
-        fails s c 2 c low (omega arith) (cut-short s c 5 i (row-comes s c (a .phase)) (rw (lt-ltb (c .st .rows) 600 l))
+        fails s c 2 c low (omega arith)
+        (cut-short s c 5 i (row-comes s c (a .phase)) (rw (lt-ltb (c .st .rows) 600 l))
         (omega (arith, a .place, a .last (omega (arith, a .place)))))
 
     full : getD s (c .at) 0 ≡ 5 → c .at < length s → 600 ≤ c .st .rows → Passes s c 5 c
     unfolding roomOf
     full i low l =
         fails s c 5 c low (omega arith)
-        (one-too-many s c 5 i (row-comes s c (a .phase)) 5 (rw (le-ltb (c .st .rows) 600 l)) (omega arith))
+        (one-too-many s c 5 i (row-comes s c (a .phase)) 5 (rw (le-ltb (c .st .rows) 600 l))
+        (omega arith))
 
-    stops-with : (m : ℕ) → 0 < m → n ≡ m → Passes s c m c → Rowed s (record { number = n; cursor = c })
+    stops-with : (m : ℕ) → 0 < m → n ≡ m → Passes s c m c
+        → Rowed s (record { number = n; cursor = c })
     stops-with m h z p = rw z (rows-stopped m c p (λ y. omega arith))
 
     pub rows-over : Rowed s (record { number = n; cursor = c })
@@ -130,10 +144,18 @@ module _ (s : List ℕ) (end : ℕ) (c : Cursor) (a : Along s end c) where
             | yes i ↦ elim (decLt (c .st .rows) 600) [
               | yes l ↦
                   stops-with 2 (omega arith)
-                  (rw (lt-ltb (c .at) (length s) low, eq-eqb (getD s (c .at) 0) 5 i, lt-ltb (c .st .rows) 600 l) at g) (cut i low l)
+                  (rw (
+                    lt-ltb (c .at) (length s) low,
+                    eq-eqb (getD s (c .at) 0) 5 i,
+                    lt-ltb (c .st .rows) 600 l,
+                  ) at g) (cut i low l)
               | no l ↦
                   stops-with 5 (omega arith)
-                  (rw (lt-ltb (c .at) (length s) low, eq-eqb (getD s (c .at) 0) 5 i, le-ltb (c .st .rows) 600 (omega arith)) at g)
+                  (rw (
+                    lt-ltb (c .at) (length s) low,
+                    eq-eqb (getD s (c .at) 0) 5 i,
+                    le-ltb (c .st .rows) 600 (omega arith),
+                  ) at g)
                   (full i low (omega arith))
             ]
             | no i ↦ over (rw (lt-ltb (c .at) (length s) low, ne-eqb (getD s (c .at) 0) 5 i) at g) i
@@ -152,14 +174,22 @@ pub line-begins : (s : List ℕ) (c : Cursor) → InLine (c .st) → Lining s c 
 line-begins s c h = record { line = h; same = refl }
 
 module _ (s : List ℕ) (first c : Cursor) (l : Lining s first c) where
-  pub leg-run : (n : ℕ) (d : Cursor) → Passes s c n (pastLeg s c) → n ≡ 0 → d ≡ pastLeg s c → Lining s first d
-  leg-run n d h z e = rw e (record { line = inr refl; same = sym (goes-on s c n (pastLeg s c) h z) ∙ l .same })
+  pub leg-run : (n : ℕ) (d : Cursor) → Passes s c n (pastLeg s c) → n ≡ 0 → d ≡ pastLeg s c
+      → Lining s first d
+  leg-run n d h z e =
+      rw e (record { line = inr refl; same = sym (goes-on s c n (pastLeg s c) h z) ∙ l .same })
 
-  pub line-stopped : (n : ℕ) (d : Cursor) → Passes s c n d → (n ≡ 0 → ⊥) → Walked s first (record { number = n; cursor = c })
+  pub line-stopped : (n : ℕ) (d : Cursor) → Passes s c n d → (n ≡ 0 → ⊥)
+      → Walked s first (record { number = n; cursor = c })
   line-stopped n d h z =
-      record { same = sym (l .same) ∙ h .same ∙ rw (ne-eqb n 0 z); line = l .line; none = λ y. absurd (z y) }
+      record {
+        same = sym (l .same) ∙ h .same ∙ rw (ne-eqb n 0 z);
+        line = l .line;
+        none = λ y. absurd (z y);
+      }
 
-  pub line-over : (r : Bool) → r ≡ isLeg (getD s (c .at) 0) → r ≡ false → Walked s first (record { number = 0; cursor = c })
+  pub line-over : (r : Bool) → r ≡ isLeg (getD s (c .at) 0) → r ≡ false
+      → Walked s first (record { number = 0; cursor = c })
   line-over r e f = record { same = sym (l .same); line = l .line; none = λ y. sym e ∙ f }
 
   module _ (r : Bool) (e : r ≡ isLeg (getD s (c .at) 0)) (t : r ≡ true) where
@@ -174,10 +204,12 @@ module _ (s : List ℕ) (first c : Cursor) (l : Lining s first c) where
 
   pub leg-less : (r : Bool) (d : Cursor) → r ≡ isLeg (getD s (c .at) 0) → r ≡ true → d ≡ pastLeg s c
       → length s - d .at < length s - c .at
-  leg-less r d e t f = omega (arith, leg-low s c (sym e ∙ t) (l .line), ap (λ (x : Cursor). x .at) f)
+  leg-less r d e t f =
+      omega (arith, leg-low s c (sym e ∙ t) (l .line), ap (λ (x : Cursor). x .at) f)
 
 -- ---- after the close nothing may stand
-module _ (s : List ℕ) (c : Cursor) (n : ℕ) (d : Cursor) (h : Passes s c n (past c 17 closed)) (z : n ≡ 0) (is : d ≡ past c 17 closed) where
+module _ (s : List ℕ) (c : Cursor) (n : ℕ) (d : Cursor) (h : Passes s c n (past c 17 closed))
+    (z : n ≡ 0) (is : d ≡ past c 17 closed) where
   goes : onward s c ≡ onward s d
   goes = goes-on s c n (past c 17 closed) h z ∙ rw is
 
@@ -186,7 +218,9 @@ module _ (s : List ℕ) (c : Cursor) (n : ℕ) (d : Cursor) (h : Passes s c n (p
 
   pub more-after : d .at < length s → Refused 3 (d .at) ≡ onward s c
   unfolding mayCome
-  more-after low = walk-stop s (d .st) (d .at) (Stop 3) 3 _ refl (sym (other-kind s d (getD s (d .at) 0) refl (rw phase-is))) low (sym goes)
+  more-after low =
+      walk-stop s (d .st) (d .at) (Stop 3) 3 _ refl
+      (sym (other-kind s d (getD s (d .at) 0) refl (rw phase-is))) low (sym goes)
 
   pub all-read : (v : State) → v ≡ d .st → length s ≤ d .at → Reads v ≡ onward s c
   all-read v e high = ap Reads e ∙ walk-closed s (d .st) (d .at) _ high (sym goes) phase-is
@@ -196,7 +230,8 @@ pub past-phase : (c d : Cursor) (bytes phase : ℕ) → d ≡ past c bytes phase
 past-phase c d bytes phase e = rw e
 
 module _ (s : List ℕ) (r : Passed) (rowed : Rowed s r) where
-  stops : (m : ℕ) (c : Cursor) → (m ≡ 0 → ⊥) → readingOf s ≡ Refused m (c .at) → Opened s (record { number = m; cursor = c })
+  stops : (m : ℕ) (c : Cursor) → (m ≡ 0 → ⊥) → readingOf s ≡ Refused m (c .at)
+      → Opened s (record { number = m; cursor = c })
   stops m c z e = record { same = rw (ne-eqb m 0 z) e; begun = λ y. absurd (z y) }
 
   pub rows-refused : (r .number ≡ 0 → ⊥) → Opened s r
@@ -216,15 +251,18 @@ module _ (s : List ℕ) (r : Passed) (rowed : Rowed s r) where
       pub project-refused : (n ≡ 0 → ⊥) → Opened s (record { number = n; cursor = c })
       project-refused z = stops n c z (rows-read ∙ project .same ∙ rw (ne-eqb n 0 z))
 
-      module _ (passed : n ≡ 0) (d : Cursor) (on : d ≡ past c 5 afterProject) (m : ℕ) (start : Passes s d m (past d 13 lineBegun)) where
+      module _ (passed : n ≡ 0) (d : Cursor) (on : d ≡ past c 5 afterProject) (m : ℕ)
+          (start : Passes s d m (past d 13 lineBegun)) where
         project-read : readingOf s ≡ onward s d
         project-read = rows-read ∙ project .same ∙ rw (passed, on)
 
         pub start-refused : (m ≡ 0 → ⊥) → Opened s (record { number = m; cursor = d })
         start-refused z = stops m d z (project-read ∙ start .same ∙ rw (ne-eqb m 0 z))
 
-        pub start-read : (b : Cursor) → b ≡ past d 13 lineBegun → m ≡ 0 → Opened s (record { number = m; cursor = b })
-        start-read b e z = record { same = project-read ∙ start .same ∙ rw (z, e); begun = λ y. rw e (inl refl) }
+        pub start-read : (b : Cursor) → b ≡ past d 13 lineBegun → m ≡ 0
+            → Opened s (record { number = m; cursor = b })
+        start-read b e z =
+            record { same = project-read ∙ start .same ∙ rw (z, e); begun = λ y. rw e (inl refl) }
 
 -- ---- and the whole
 module _ (s : List ℕ) (r : Passed) (opened : Opened s r) (c : Cursor) (is : c ≡ r .cursor) where

@@ -1,5 +1,6 @@
--- A record at a place of the tape. The first test that it fails gives the refusal, and one that passes all leaves the reading from behind it on, whatever its
--- kind; then, kind by kind, what the reader's functions find.
+-- A record at a place of the tape. The first test that it fails gives the refusal, and one that
+-- passes all leaves the reading from behind it on, whatever its kind; then, kind by kind, what the
+-- reader's functions find.
 use Prim.Native.Nat.{ℕ, _+_, _-_, _≤_, _<_}
 use native.Mathlib.Decide.{decLt, ℕ-discrete}
 use native.Mathlib.Omega.{arith}
@@ -13,7 +14,9 @@ use lib.ListN.{length, getD, drop, length-drop, List·getD-eq-default}
 use borrow.Author.Tests.{lt-ltb, le-ltb, eq-eqb, ne-eqb, eqb-true, le-leb, lt-leb}
 use Rattle.records.specs.Bytes.{two, four, num, meant, twosComplement}
 use Rattle.records.specs.Record.{bodyOf, numbersOf, fieldsOf, table, goodOf}
-use Rattle.tape.specs.Tape.{afterProject, lineBegun, afterLeg, closed, isLeg, inPhase, withRow, withLeg, Step, Next, Stop, mayCome, roomOf, rowNext, projectNext, afterOf, takeOf, judge, stepOf}
+use Rattle.tape.specs.Tape.{afterProject, lineBegun, afterLeg, closed, isLeg, inPhase}
+use Rattle.tape.specs.Tape.{withRow, withLeg, Step, Next, Stop, mayCome, roomOf, rowNext}
+use Rattle.tape.specs.Tape.{projectNext, afterOf, takeOf, judge, stepOf}
 use Rattle.tape.specs.Passing.{cursor, onward, pastRow, pastLeg, InLine, Passes}
 use Rattle.tape.specs.declared.State.{State}
 use Rattle.tape.specs.declared.Cursor.{Cursor}
@@ -58,7 +61,8 @@ module _ (s : List ℕ) (c : Cursor) where
       pub goes-on : n ≡ 0 → onward s c ≡ onward s d
       goes-on z = h .same ∙ rw z
 
-  passes : (u : State) (b : ℕ) → at < length s → b ≡ at + 1 + bodyOf (getD s at 0) → step ≡ Next u → Passes s c 0 (cursor b u)
+  passes : (u : State) (b : ℕ) → at < length s → b ≡ at + 1 + bodyOf (getD s at 0) → step ≡ Next u
+      → Passes s c 0 (cursor b u)
   passes u b low f e =
       record {
         same = rw f (sym (walk-next s st at (Next u) _ u _ refl (sym e) refl low refl));
@@ -77,7 +81,8 @@ module _ (s : List ℕ) (c : Cursor) where
 
     pub cut-short : mayCome st k ≡ true → roomOf st k ≡ 0 → length s - at ≤ bodyOf k → step ≡ Stop 2
     unfolding stepOf judge takeOf
-    cut-short comes room h = rw (head-drop at s, is, comes, room, length-drop at s, le-ltb (bodyOf k) (length s - at) h)
+    cut-short comes room h =
+        rw (head-drop at s, is, comes, room, length-drop at s, le-ltb (bodyOf k) (length s - at) h)
 
   -- one that may come, and that there is room for
   record Due (k : ℕ) : Type 0 where
@@ -88,13 +93,25 @@ module _ (s : List ℕ) (c : Cursor) where
 
   module _ (k : ℕ) (d : Due k) (u : State) (b : ℕ) where
     short : length s - at ≤ bodyOf k → Passes s c 2 (cursor b u)
-    short h = fails 2 (cursor b u) (d .low) (omega arith) (cut-short k (d .is) (d .comes) (d .room) h)
+    short h =
+        fails 2 (cursor b u) (d .low) (omega arith) (cut-short k (d .is) (d .comes) (d .room) h)
 
     -- whole, with the numbers vs
-    module _ (vs : List ℤ) (g : Bool) (fits : bodyOf k < length s - at) (v : numbersOf k (drop at s) ≡ vs) (e : g ≡ goodOf k vs) where
+    module _ (vs : List ℤ) (g : Bool) (fits : bodyOf k < length s - at)
+        (v : numbersOf k (drop at s) ≡ vs) (e : g ≡ goodOf k vs) where
       judged : step ≡ cond g (afterOf st k vs) (Stop 4)
       unfolding stepOf judge takeOf
-      judged = rw (head-drop at s, d .is, d .comes, d .room, length-drop at s, lt-ltb (bodyOf k) (length s - at) fits, v, ← e)
+      judged =
+          rw (
+            head-drop at s,
+            d .is,
+            d .comes,
+            d .room,
+            length-drop at s,
+            lt-ltb (bodyOf k) (length s - at) fits,
+            v,
+            ← e,
+          )
 
       bad : g ≡ false → Passes s c 4 (cursor b u)
       bad t = fails 4 (cursor b u) (d .low) (omega arith) (judged ∙ rw t)
@@ -102,23 +119,28 @@ module _ (s : List ℕ) (c : Cursor) where
       unfit : (n : ℕ) → 0 < n → g ≡ true → afterOf st k vs ≡ Stop n → Passes s c n (cursor b u)
       unfit n h t f = fails n (cursor b u) (d .low) h (judged ∙ rw t f)
 
-      taken : g ≡ true → afterOf st k vs ≡ Next u → b ≡ at + 1 + bodyOf k → Passes s c 0 (cursor b u)
+      taken : g ≡ true → afterOf st k vs ≡ Next u → b ≡ at + 1 + bodyOf k
+          → Passes s c 0 (cursor b u)
       taken t f h = passes u b (d .low) (rw (d .is) h) (judged ∙ rw t f)
 
   -- ---- where one kind alone may stand: the end of the tape, another record, or one of the kind
   module _ (k n : ℕ) (e : n ≡ cond (ltb at (length s)) (cond (eqb (getD s at 0) k) 0 3) 2) where
-    not-due : (u : State) (b : ℕ) → (st .phase ≡ closed → ⊥) → ((getD s at 0 ≡ k → ⊥) → mayCome st (getD s at 0) ≡ false) → (n ≡ 0 → ⊥) → Passes s c n (cursor b u)
+    not-due : (u : State) (b : ℕ) → (st .phase ≡ closed → ⊥)
+        → ((getD s at 0 ≡ k → ⊥) → mayCome st (getD s at 0) ≡ false) → (n ≡ 0 → ⊥)
+        → Passes s c n (cursor b u)
     not-due u b p alone h =
         elim (decLt at (length s)) [
           | yes low ↦ elim (ℕ-discrete (getD s at 0) k) [
             | yes i ↦ absurd (h (rw (lt-ltb at (length s) low, eq-eqb (getD s at 0) k i) at e))
             | no i ↦
                 let three : n ≡ 3 = rw (lt-ltb at (length s) low, ne-eqb (getD s at 0) k i) at e in
-                rw three (fails 3 (cursor b u) low (omega arith) (other-kind (getD s at 0) refl (alone i)))
+                rw three
+                (fails 3 (cursor b u) low (omega arith) (other-kind (getD s at 0) refl (alone i)))
           ]
           | no high ↦
               let two : n ≡ 2 = rw (le-ltb at (length s) (omega arith)) at e in
-              rw two (refused 2 (cursor b u) (omega arith) (sym (walk-open s st at _ (omega arith) refl p)))
+              rw two
+              (refused 2 (cursor b u) (omega arith) (sym (walk-open s st at _ (omega arith) refl p)))
         ]
 
     due : n ≡ 0 → (at < length s) × (getD s at 0 ≡ k)
@@ -126,9 +148,11 @@ module _ (s : List ℕ) (c : Cursor) where
         elim (decLt at (length s)) [
           | yes low ↦ elim (ℕ-discrete (getD s at 0) k) [
             | yes i ↦ (low, i)
-            | no i ↦ absurd (let three : n ≡ 3 = rw (lt-ltb at (length s) low, ne-eqb (getD s at 0) k i) at e in omega arith)
+            | no i ↦ absurd (let three : n ≡ 3 =
+                rw (lt-ltb at (length s) low, ne-eqb (getD s at 0) k i) at e in omega arith)
           ]
-          | no high ↦ absurd (let two : n ≡ 2 = rw (le-ltb at (length s) (omega arith)) at e in omega arith)
+          | no high ↦ absurd (let two : n ≡ 2 =
+              rw (le-ltb at (length s) (omega arith)) at e in omega arith)
         ]
 
     pub due-within : n ≡ 0 → at ≤ length s
@@ -145,19 +169,29 @@ module _ (s : List ℕ) (c : Cursor) where
   abbrev row-after : State
   row-after = withRow st (num two s (at + 1))
 
-  module _ (is : getD s at 0 ≡ 5) (fits : at + 7 ≤ length s) (p : st .phase ≡ 0) (few : st .rows < 600) (minute factor : ℕ) (g : Bool) (m : minute ≡ num two s (at + 1))
+  module _ (is : getD s at 0 ≡ 5) (fits : at + 7 ≤ length s) (p : st .phase ≡ 0)
+      (few : st .rows < 600) (minute factor : ℕ) (g : Bool) (m : minute ≡ num two s (at + 1))
       (f : factor ≡ num four s (at + 3)) (e : g ≡ goodOf 5 (pos minute ∷ pos factor ∷ [])) where
     row-due : Due 5
     unfolding roomOf
-    row-due = record { low = omega arith; is = is; comes = row-comes p; room = rw (lt-ltb (st .rows) 600 few) }
+    row-due =
+        record {
+          low = omega arith;
+          is = is;
+          comes = row-comes p;
+          room = rw (lt-ltb (st .rows) 600 few);
+        }
 
     row-numbers : numbersOf 5 (drop at s) ≡ pos minute ∷ pos factor ∷ []
     unfolding numbersOf fieldsOf table meant
     row-numbers = rw (num-drop two at s 1, num-drop four at s 3, ← m, ← f)
 
-    row-passes : g ≡ true → (eqb (st .rows) 0 || eqb minute (st .next)) ≡ true → Passes s c 0 (cursor (at + 7) row-after)
+    row-passes : g ≡ true → (eqb (st .rows) 0 || eqb minute (st .next)) ≡ true
+        → Passes s c 0 (cursor (at + 7) row-after)
     unfolding afterOf rowNext bodyOf fieldsOf table
-    row-passes t o = taken 5 row-due row-after (at + 7) _ g (omega arith) row-numbers e t (rw (o, m)) (omega arith)
+    row-passes t o =
+        taken 5 row-due row-after (at + 7) _ g (omega arith) row-numbers e t (rw (o, m))
+        (omega arith)
 
     pub row-first : g ≡ true → st .rows ≡ 0 → Passes s c 0 (cursor (at + 7) row-after)
     row-first t z = row-passes t (rw (eq-eqb (st .rows) 0 z))
@@ -165,10 +199,12 @@ module _ (s : List ℕ) (c : Cursor) where
     pub row-next : g ≡ true → minute ≡ st .next → Passes s c 0 (cursor (at + 7) row-after)
     row-next t z = row-passes t (rw (eq-eqb minute (st .next) z, or-true))
 
-    pub row-out : g ≡ true → (st .rows ≡ 0 → ⊥) → (minute ≡ st .next → ⊥) → Passes s c 5 (cursor (at + 7) row-after)
+    pub row-out : g ≡ true → (st .rows ≡ 0 → ⊥) → (minute ≡ st .next → ⊥)
+        → Passes s c 5 (cursor (at + 7) row-after)
     unfolding afterOf rowNext bodyOf fieldsOf table
     row-out t y z =
-        unfit 5 row-due row-after (at + 7) _ g (omega arith) row-numbers e 5 (omega arith) t (rw (ne-eqb (st .rows) 0 y, ne-eqb minute (st .next) z))
+        unfit 5 row-due row-after (at + 7) _ g (omega arith) row-numbers e 5 (omega arith) t
+        (rw (ne-eqb (st .rows) 0 y, ne-eqb minute (st .next) z))
 
     pub row-bad : g ≡ false → Passes s c 4 (cursor (at + 7) row-after)
     unfolding bodyOf fieldsOf table
@@ -180,53 +216,71 @@ module _ (s : List ℕ) (c : Cursor) where
   past-row-is m e = rw e
 
   -- ---- the project
-  module _ (n : ℕ) (e : n ≡ cond (ltb at (length s)) (cond (eqb (getD s at 0) 1) 0 3) 2) (p : st .phase ≡ 0) where
-    pub no-project : (getD s at 0 ≡ 5 → ⊥) → (n ≡ 0 → ⊥) → Passes s c n (cursor (at + 5) (inPhase afterProject st))
+  module _ (n : ℕ) (e : n ≡ cond (ltb at (length s)) (cond (eqb (getD s at 0) 1) 0 3) 2)
+      (p : st .phase ≡ 0) where
+    pub no-project : (getD s at 0 ≡ 5 → ⊥) → (n ≡ 0 → ⊥)
+        → Passes s c n (cursor (at + 5) (inPhase afterProject st))
     unfolding mayCome
-    no-project r h = not-due 1 n e (inPhase afterProject st) (at + 5) (λ z. omega arith) (λ i. rw (p, ne-eqb (getD s at 0) 5 r, ne-eqb (getD s at 0) 1 i)) h
+    no-project r h =
+        not-due 1 n e (inPhase afterProject st) (at + 5) (λ z. omega arith)
+        (λ i. rw (p, ne-eqb (getD s at 0) 5 r, ne-eqb (getD s at 0) 1 i)) h
 
     module _ (z : n ≡ 0) where
       project-due : Due 1
       unfolding mayCome roomOf
       project-due = is-due 1 n e z (rw p) refl
 
-      pub project-short : length s - at ≤ 4 → Passes s c 2 (cursor (at + 5) (inPhase afterProject st))
+      pub project-short : length s - at ≤ 4
+          → Passes s c 2 (cursor (at + 5) (inPhase afterProject st))
       unfolding bodyOf fieldsOf table
       project-short h = short 1 project-due (inPhase afterProject st) (at + 5) h
 
-      module _ (fits : 4 < length s - at) (latitude : ℕ) (elevation : ℤ) (g : Bool) (l : latitude ≡ num two s (at + 1))
-          (f : elevation ≡ meant twosComplement two (num two s (at + 3))) (i : g ≡ goodOf 1 (pos latitude ∷ elevation ∷ [])) where
+      module _ (fits : 4 < length s - at) (latitude : ℕ) (elevation : ℤ) (g : Bool)
+          (l : latitude ≡ num two s (at + 1))
+          (f : elevation ≡ meant twosComplement two (num two s (at + 3)))
+          (i : g ≡ goodOf 1 (pos latitude ∷ elevation ∷ [])) where
         project-numbers : numbersOf 1 (drop at s) ≡ pos latitude ∷ elevation ∷ []
         unfolding numbersOf fieldsOf table meant
         project-numbers = rw (num-drop two at s 1, num-drop two at s 3, ← l, ← f)
 
         pub project-bad : g ≡ false → Passes s c 4 (cursor (at + 5) (inPhase afterProject st))
         unfolding bodyOf fieldsOf table
-        project-bad t = bad 1 project-due (inPhase afterProject st) (at + 5) _ g fits project-numbers i t
+        project-bad t =
+            bad 1 project-due (inPhase afterProject st) (at + 5) _ g fits project-numbers i t
 
-        no-row : g ≡ true → projectNext st latitude ≡ Stop 7 → Passes s c 7 (cursor (at + 5) (inPhase afterProject st))
+        no-row : g ≡ true → projectNext st latitude ≡ Stop 7
+            → Passes s c 7 (cursor (at + 5) (inPhase afterProject st))
         unfolding afterOf bodyOf fieldsOf table
-        no-row t h = unfit 1 project-due (inPhase afterProject st) (at + 5) _ g fits project-numbers i 7 (omega arith) t h
+        no-row t h =
+            unfit 1 project-due (inPhase afterProject st) (at + 5) _ g fits project-numbers i 7
+            (omega arith) t h
 
-        pub above-rows : g ≡ true → st .next ≤ latitude → Passes s c 7 (cursor (at + 5) (inPhase afterProject st))
+        pub above-rows : g ≡ true → st .next ≤ latitude
+            → Passes s c 7 (cursor (at + 5) (inPhase afterProject st))
         unfolding projectNext
         above-rows t h = no-row t (rw (le-ltb latitude (st .next) h))
 
-        module _ (d : ℕ) (y : d ≡ st .next - latitude) (t : g ≡ true) (low : latitude < st .next) where
+        module _ (d : ℕ) (y : d ≡ st .next - latitude) (t : g ≡ true)
+            (low : latitude < st .next) where
           pub below-rows : st .rows < d → Passes s c 7 (cursor (at + 5) (inPhase afterProject st))
           unfolding projectNext
           below-rows h = no-row t (rw (lt-ltb latitude (st .next) low, ← y, lt-leb d (st .rows) h))
 
-          pub project-passes : d ≤ st .rows → Passes s c 0 (cursor (at + 5) (inPhase afterProject st))
+          pub project-passes : d ≤ st .rows
+              → Passes s c 0 (cursor (at + 5) (inPhase afterProject st))
           unfolding afterOf projectNext bodyOf fieldsOf table
           project-passes h =
-              taken 1 project-due (inPhase afterProject st) (at + 5) _ g fits project-numbers i t (rw (lt-ltb latitude (st .next) low, ← y, le-leb d (st .rows) h)) (omega arith)
+              taken 1 project-due (inPhase afterProject st) (at + 5) _ g fits project-numbers i t
+              (rw (lt-ltb latitude (st .next) low, ← y, le-leb d (st .rows) h)) (omega arith)
 
   -- ---- the start
-  module _ (n : ℕ) (e : n ≡ cond (ltb at (length s)) (cond (eqb (getD s at 0) 2) 0 3) 2) (p : st .phase ≡ 1) where
+  module _ (n : ℕ) (e : n ≡ cond (ltb at (length s)) (cond (eqb (getD s at 0) 2) 0 3) 2)
+      (p : st .phase ≡ 1) where
     pub no-start : (n ≡ 0 → ⊥) → Passes s c n (cursor (at + 13) (inPhase lineBegun st))
     unfolding mayCome
-    no-start h = not-due 2 n e (inPhase lineBegun st) (at + 13) (λ z. omega arith) (λ i. rw (p, ne-eqb (getD s at 0) 2 i)) h
+    no-start h =
+        not-due 2 n e (inPhase lineBegun st) (at + 13) (λ z. omega arith)
+        (λ i. rw (p, ne-eqb (getD s at 0) 2 i)) h
 
     module _ (z : n ≡ 0) where
       start-due : Due 2
@@ -237,11 +291,14 @@ module _ (s : List ℕ) (c : Cursor) where
       unfolding bodyOf fieldsOf table
       start-short h = short 2 start-due (inPhase lineBegun st) (at + 13) h
 
-      module _ (fits : 12 < length s - at) (northing easting mark : ℕ) (g : Bool) (x : northing ≡ num four s (at + 1)) (y : easting ≡ num four s (at + 5))
-          (m : mark ≡ num four s (at + 9)) (i : g ≡ goodOf 2 (pos northing ∷ pos easting ∷ pos mark ∷ [])) where
+      module _ (fits : 12 < length s - at) (northing easting mark : ℕ) (g : Bool)
+          (x : northing ≡ num four s (at + 1)) (y : easting ≡ num four s (at + 5))
+          (m : mark ≡ num four s (at + 9))
+          (i : g ≡ goodOf 2 (pos northing ∷ pos easting ∷ pos mark ∷ [])) where
         start-numbers : numbersOf 2 (drop at s) ≡ pos northing ∷ pos easting ∷ pos mark ∷ []
         unfolding numbersOf fieldsOf table meant
-        start-numbers = rw (num-drop four at s 1, num-drop four at s 5, num-drop four at s 9, ← x, ← y, ← m)
+        start-numbers =
+            rw (num-drop four at s 1, num-drop four at s 5, num-drop four at s 9, ← x, ← y, ← m)
 
         pub start-bad : g ≡ false → Passes s c 4 (cursor (at + 13) (inPhase lineBegun st))
         unfolding bodyOf fieldsOf table
@@ -249,7 +306,9 @@ module _ (s : List ℕ) (c : Cursor) where
 
         pub start-passes : g ≡ true → Passes s c 0 (cursor (at + 13) (inPhase lineBegun st))
         unfolding afterOf bodyOf fieldsOf table
-        start-passes t = taken 2 start-due (inPhase lineBegun st) (at + 13) _ g fits start-numbers i t refl (omega arith)
+        start-passes t =
+            taken 2 start-due (inPhase lineBegun st) (at + 13) _ g fits start-numbers i t refl
+            (omega arith)
 
   -- ---- a leg
   pub leg-comes : InLine st → mayCome st 3 ≡ true
@@ -268,18 +327,27 @@ module _ (s : List ℕ) (c : Cursor) where
 
     pub leg-full : 64 ≤ st .legs → Passes s c 6 (pastLeg s c)
     unfolding roomOf
-    leg-full h = fails 6 (pastLeg s c) leg-low (omega arith) (one-too-many 3 (leg-is here) (leg-comes p) 6 (rw (le-ltb (st .legs) 64 h)) (omega arith))
+    leg-full h =
+        fails 6 (pastLeg s c) leg-low (omega arith)
+        (one-too-many 3 (leg-is here) (leg-comes p) 6 (rw (le-ltb (st .legs) 64 h)) (omega arith))
 
     module _ (few : st .legs < 64) where
       leg-due : Due 3
       unfolding roomOf
-      leg-due = record { low = leg-low; is = leg-is here; comes = leg-comes p; room = rw (lt-ltb (st .legs) 64 few) }
+      leg-due =
+          record {
+            low = leg-low;
+            is = leg-is here;
+            comes = leg-comes p;
+            room = rw (lt-ltb (st .legs) 64 few);
+          }
 
       pub leg-short : length s - at ≤ 8 → Passes s c 2 (pastLeg s c)
       unfolding bodyOf fieldsOf table
       leg-short h = short 3 leg-due (withLeg st) _ h
 
-      module _ (fits : 8 < length s - at) (angle distance : ℕ) (g : Bool) (a : angle ≡ num four s (at + 1)) (d : distance ≡ num four s (at + 5))
+      module _ (fits : 8 < length s - at) (angle distance : ℕ) (g : Bool)
+          (a : angle ≡ num four s (at + 1)) (d : distance ≡ num four s (at + 5))
           (e : g ≡ goodOf 3 (pos angle ∷ pos distance ∷ [])) where
         leg-numbers : numbersOf 3 (drop at s) ≡ pos angle ∷ pos distance ∷ []
         unfolding numbersOf fieldsOf table meant
@@ -287,7 +355,8 @@ module _ (s : List ℕ) (c : Cursor) where
 
         pub leg-passes : g ≡ true → Passes s c 0 (pastLeg s c)
         unfolding afterOf bodyOf fieldsOf table
-        leg-passes t = taken 3 leg-due (withLeg st) _ _ g (omega arith) leg-numbers e t refl (rw (leg-is here))
+        leg-passes t =
+            taken 3 leg-due (withLeg st) _ _ g (omega arith) leg-numbers e t refl (rw (leg-is here))
 
         pub leg-bad : g ≡ false → Passes s c 4 (pastLeg s c)
         unfolding bodyOf fieldsOf table
@@ -300,23 +369,28 @@ module _ (s : List ℕ) (c : Cursor) where
 
   -- ---- the close
   module _ (n : ℕ) (e : n ≡ cond (ltb at (length s)) (cond (eqb (getD s at 0) 4) 0 3) 2) where
-    pub no-close : InLine st → isLeg (getD s at 0) ≡ false → (n ≡ 0 → ⊥) → Passes s c n (cursor (at + 17) (inPhase closed st))
+    pub no-close : InLine st → isLeg (getD s at 0) ≡ false → (n ≡ 0 → ⊥)
+        → Passes s c n (cursor (at + 17) (inPhase closed st))
     unfolding mayCome
     no-close =
         ⊎-elim
         (λ (p : st .phase ≡ lineBegun) r h. not-due 4 n e (inPhase closed st) (at + 17) (λ z. omega arith) (λ i. rw (p, r)) h)
         (λ (p : st .phase ≡ afterLeg) r h.
-        not-due 4 n e (inPhase closed st) (at + 17) (λ z. omega arith) (λ i. rw (p, r, ne-eqb (getD s at 0) 4 i)) h)
+        not-due 4 n e (inPhase closed st) (at + 17) (λ z. omega arith)
+        (λ i. rw (p, r, ne-eqb (getD s at 0) 4 i)) h)
 
     module _ (z : n ≡ 0) where
       pub close-early : st .phase ≡ lineBegun → Passes s c 3 (cursor (at + 17) (inPhase closed st))
       unfolding mayCome
-      close-early p = fails 3 (cursor (at + 17) (inPhase closed st)) (due 4 n e z .0) (omega arith) (other-kind 4 (due 4 n e z .1) (rw p))
+      close-early p =
+          fails 3 (cursor (at + 17) (inPhase closed st)) (due 4 n e z .0) (omega arith)
+          (other-kind 4 (due 4 n e z .1) (rw p))
 
       module _ (line : InLine st) (some : st .phase ≡ lineBegun → ⊥) where
         close-comes : mayCome st 4 ≡ true
         unfolding mayCome
-        close-comes = ⊎-elim (λ (p : st .phase ≡ lineBegun). absurd (some p)) (λ (p : st .phase ≡ afterLeg). rw p) line
+        close-comes =
+            ⊎-elim (λ (p : st .phase ≡ lineBegun). absurd (some p)) (λ (p : st .phase ≡ afterLeg). rw p) line
 
         close-due : Due 4
         unfolding roomOf
@@ -326,11 +400,23 @@ module _ (s : List ℕ) (c : Cursor) where
         unfolding bodyOf fieldsOf table
         close-short h = short 4 close-due (inPhase closed st) (at + 17) h
 
-        module _ (fits : 16 < length s - at) (angle northing easting mark : ℕ) (g : Bool) (a : angle ≡ num four s (at + 1)) (x : northing ≡ num four s (at + 5))
-            (y : easting ≡ num four s (at + 9)) (m : mark ≡ num four s (at + 13)) (i : g ≡ goodOf 4 (pos angle ∷ pos northing ∷ pos easting ∷ pos mark ∷ [])) where
+        module _ (fits : 16 < length s - at) (angle northing easting mark : ℕ) (g : Bool)
+            (a : angle ≡ num four s (at + 1)) (x : northing ≡ num four s (at + 5))
+            (y : easting ≡ num four s (at + 9)) (m : mark ≡ num four s (at + 13))
+            (i : g ≡ goodOf 4 (pos angle ∷ pos northing ∷ pos easting ∷ pos mark ∷ [])) where
           close-numbers : numbersOf 4 (drop at s) ≡ pos angle ∷ pos northing ∷ pos easting ∷ pos mark ∷ []
           unfolding numbersOf fieldsOf table meant
-          close-numbers = rw (num-drop four at s 1, num-drop four at s 5, num-drop four at s 9, num-drop four at s 13, ← a, ← x, ← y, ← m)
+          close-numbers =
+              rw (
+                num-drop four at s 1,
+                num-drop four at s 5,
+                num-drop four at s 9,
+                num-drop four at s 13,
+                ← a,
+                ← x,
+                ← y,
+                ← m,
+              )
 
           pub close-bad : g ≡ false → Passes s c 4 (cursor (at + 17) (inPhase closed st))
           unfolding bodyOf fieldsOf table
@@ -338,4 +424,6 @@ module _ (s : List ℕ) (c : Cursor) where
 
           pub close-passes : g ≡ true → Passes s c 0 (cursor (at + 17) (inPhase closed st))
           unfolding afterOf bodyOf fieldsOf table
-          close-passes t = taken 4 close-due (inPhase closed st) (at + 17) _ g fits close-numbers i t refl (omega arith)
+          close-passes t =
+              taken 4 close-due (inPhase closed st) (at + 17) _ g fits close-numbers i t refl
+              (omega arith)

@@ -25,12 +25,14 @@ module _ (p : ℕ → Bool) (r : Rec) (rs : List Rec) where
   unfolding placeOf
   place-here at e = rw e
 
-  pub place-on : (at : ℕ) → p (r .kind) ≡ false → placeOf p at (r ∷ rs) ≡ placeOf p (at + 1 + bodyOf (r .kind)) rs
+  pub place-on : (at : ℕ) → p (r .kind) ≡ false
+      → placeOf p at (r ∷ rs) ≡ placeOf p (at + 1 + bodyOf (r .kind)) rs
   unfolding placeOf
   place-on at e = rw e
 
 -- a record of a kind that is not picked
-module _ (p : ℕ → Bool) (k : ℕ) (r : Rec) (rs : List Rec) (is : r .kind ≡ k) (not : p k ≡ false) where
+module _ (p : ℕ → Bool) (k : ℕ) (r : Rec) (rs : List Rec) (is : r .kind ≡ k)
+    (not : p k ≡ false) where
   pub skips : pick p (r ∷ rs) ≡ pick p rs
   skips = pick-no p r rs (rw is not)
 
@@ -53,7 +55,8 @@ pub record Picked (p : ℕ → Bool) (r : Rec) : Type 0 where
   pub kind : p (r .kind) ≡ true
   pub good : goodOf (r .kind) (r .values) ≡ true
 
-pub picked-at : (p : ℕ → Bool) (rs : List Rec) → Good rs → (k : ℕ) → k < length (pick p rs) → Picked p (getD (pick p rs) k none)
+pub picked-at : (p : ℕ → Bool) (rs : List Rec) → Good rs → (k : ℕ) → k < length (pick p rs)
+    → Picked p (getD (pick p rs) k none)
 unfolding pick
 picked-at p [] g = λ k low. absurd (omega arith)
 picked-at p (r ∷ rs) g = go (p (r .kind)) refl (picked-at p rs (g .1))

@@ -1,5 +1,6 @@
--- The fields of a tape that reads are in range: a record that is picked is one of the tape's, and so its numbers are in the ranges of its
--- kind; the order says that there is one to pick; and a row has the latitude of the project.
+-- The fields of a tape that reads are in range: a record that is picked is one of the tape's, and
+-- so its numbers are in the ranges of its kind; the order says that there is one to pick; and a row
+-- has the latitude of the project.
 use Prim.Native.Nat.{ℕ, suc, _≤_, _<_}
 use native.Mathlib.Omega.{arith}
 use mathlib.Core.Path.{_≡_, refl, sym, _∙_}
@@ -14,9 +15,11 @@ use borrow.Author.Tests.{eqb-true, eq-eqb}
 use Rattle.whole.specs.Order.{_≤ᶻ_}
 use Rattle.whole.proofs.Branch.{by-test, either}
 use Rattle.whole.proofs.Diff.{int}
-use Rattle.records.specs.Record.{Field, Rec, rowKind, projectKind, startKind, legKind, closeKind, fieldsOf, table, inRanges, goodOf}
+use Rattle.records.specs.Record.{Field, Rec, rowKind, projectKind, startKind, legKind, closeKind}
+use Rattle.records.specs.Record.{fieldsOf, table, inRanges, goodOf}
 use Rattle.tape.specs.Tape.{isLeg, start, recordsOf}
-use Rattle.tape.specs.Fields.{Fields, number, pick, none, only, turns, angleOf, distanceOf, isRow, scaleOf, picked, DoesRead}
+use Rattle.tape.specs.Fields.{Fields, number, pick, none, only, turns, angleOf, distanceOf}
+use Rattle.tape.specs.Fields.{isRow, scaleOf, picked, DoesRead}
 use Rattle.tape.specs.Fields.{fieldsOf as named}
 use Rattle.tape.specs.Legs.{Good, Legs, last, leg, Order, row, opens}
 use Rattle.tape.proofs.Legs.{order-long}
@@ -33,7 +36,8 @@ Between low high n = (low ≤ n) × (n ≤ high)
 pub record Ranged (f : Fields) : Type 0 where
   pub legs : Between 1 64 (f .line .legs)
   pub angles : (k : ℕ) → k ≤ f .line .legs → getD (f .line .angles) k 0 < 12960000
-  pub distances : (k : ℕ) → k < f .line .legs → Between 1000 20000000 (getD (f .line .distances) k 0)
+  pub distances : (k : ℕ) → k < f .line .legs
+      → Between 1000 20000000 (getD (f .line .distances) k 0)
   pub elevation : (negℤ (pos 1000) ≤ᶻ f .site .elevation .v) × (f .site .elevation .v ≤ᶻ pos 20000)
   pub scale : Between 9990000 10010000 (f .site .scale)
   pub from : (f .opening .from .north ≤ 1000000000) × (f .opening .from .east ≤ 1000000000)
@@ -46,7 +50,8 @@ abbrev Inside : List Field → (ℕ → ℤ) → Type 0
 Inside [] g = Unit {0}
 Inside (f ∷ fs) g = ((f .low ≤ᶻ g 0) × (g 0 ≤ᶻ f .high)) × Inside fs (λ i. g (suc i))
 
-inside : (fs : List Field) (vs : List ℤ) → inRanges fs vs ≡ true → Inside fs (λ i. getD vs i (pos 0))
+inside : (fs : List Field) (vs : List ℤ) → inRanges fs vs ≡ true
+    → Inside fs (λ i. getD vs i (pos 0))
 inside [] [] e = tt
 inside [] (v ∷ vs) e = tt
 inside (f ∷ fs) [] e = no e
@@ -55,7 +60,8 @@ inside (f ∷ fs) (v ∷ vs) e =
     let j = and-eq-true-iff (leZ (f .low) v) (leZ v (f .high)) .0 (i .0) in
     ((leZ-yes (rw (j .0) tt), leZ-yes (rw (j .1) tt)), inside fs vs (i .1))
 
-good-inside : (k : ℕ) (vs : List ℤ) → goodOf k vs ≡ true → Inside (fieldsOf k) (λ i. getD vs i (pos 0))
+good-inside : (k : ℕ) (vs : List ℤ) → goodOf k vs ≡ true
+    → Inside (fieldsOf k) (λ i. getD vs i (pos 0))
 unfolding goodOf
 good-inside k vs e = inside (fieldsOf k) vs e
 
@@ -65,13 +71,15 @@ plain low high (pos n) h = let i = h .0 in let j = h .1 in (omega int, omega int
 plain low high (negsuc n) h = let i = h .0 in absurd (omega int)
 
 -- ---- the one record of a kind, where there is one
-only-good : (k : ℕ) (rs : List Rec) → Good rs → 0 < length (pick (eqb k) rs) → goodOf k (only k rs .values) ≡ true
+only-good : (k : ℕ) (rs : List Rec) → Good rs → 0 < length (pick (eqb k) rs)
+    → goodOf k (only k rs .values) ≡ true
 only-good k rs g h =
     let t = picked-at (eqb k) rs g 0 h in
     rw (sym (eqb-true k (only k rs .kind) (t .kind))) at (t .good)
 
 -- a record more does no harm
-more : (p : ℕ → Bool) (r : Rec) (rs : List Rec) → 0 < length (pick p rs) → 0 < length (pick p (r ∷ rs))
+more : (p : ℕ → Bool) (r : Rec) (rs : List Rec) → 0 < length (pick p rs)
+    → 0 < length (pick p (r ∷ rs))
 more p r rs h = go (p (r .kind)) refl
   where
     go : (b : Bool) → p (r .kind) ≡ b → 0 < length (pick p (r ∷ rs))
@@ -104,13 +112,16 @@ each (opens p s l {rs} one two is legs) =
     record {
       project = here projectKind p (s ∷ l ∷ rs) one;
       begins = more (eqb startKind) p (s ∷ l ∷ rs) (here startKind s (l ∷ rs) two);
-      a-leg = more isLeg p (s ∷ l ∷ rs) (more isLeg s (l ∷ rs) (rw (pick-yes isLeg l rs is) (omega arith)));
+      a-leg =
+          more isLeg p (s ∷ l ∷ rs)
+          (more isLeg s (l ∷ rs) (rw (pick-yes isLeg l rs is) (omega arith)));
       close =
           more (eqb closeKind) p (s ∷ l ∷ rs)
           (more (eqb closeKind) s (l ∷ rs) (more (eqb closeKind) l rs (one-close legs)));
     }
 
--- ---- the angle of a record that turns, the distance of a leg, and the factor of a row that is there
+-- ---- the angle of a record that turns, the distance of a leg, and the factor of a row that is
+-- there
 angle-small : (r : Rec) → Picked turns r → angleOf r < 12960000
 unfolding angleOf fieldsOf table
 angle-small r t =
@@ -132,9 +143,11 @@ unfolding scaleOf isRow fieldsOf table
 scaled m [] g y = absurd y
 scaled m (r ∷ rs) g y =
     by-test (Between 9990000 10010000) (eqb (r .kind) rowKind && eqb (number r 0) m)
-    (λ t. let five = eqb-true (r .kind) rowKind (and-eq-true-iff (eqb (r .kind) rowKind) _ .0 t .0) in
+    (λ t. let five =
+    eqb-true (r .kind) rowKind (and-eq-true-iff (eqb (r .kind) rowKind) _ .0 t .0) in
     plain _ _ _ (good-inside rowKind (r .values) (rw five at (g .0)) .1 .0))
-    (λ t. scaled m rs (g .1) (⊎-elim (λ x. no (sym t ∙ rw (eq-eqb _ _ (x .0), eq-eqb _ _ (x .1)))) (λ x. x) y))
+    (λ t. scaled m rs (g .1)
+    (⊎-elim (λ x. no (sym t ∙ rw (eq-eqb _ _ (x .0), eq-eqb _ _ (x .1)))) (λ x. x) y))
 
 pub ranged : (tape : List ℕ) → DoesRead tape → Ranged (named tape)
 unfolding picked angleOf distanceOf fieldsOf table
@@ -144,15 +157,17 @@ ranged tape d =
     let g = good-records tape d in
     let h = each (o .order) in
     let run = runs start 0 rs (d .last) (lawful tape (d .last) (d .reads)) in
-    let p = good-inside projectKind (only projectKind rs .values) (only-good projectKind rs g (h .project)) in
-    let s = good-inside startKind (only startKind rs .values) (only-good startKind rs g (h .begins)) in
-    let c = good-inside closeKind (only closeKind rs .values) (only-good closeKind rs g (h .close)) in
+    let p = good-inside projectKind _ (only-good projectKind rs g (h .project)) in
+    let s = good-inside startKind _ (only-good startKind rs g (h .begins)) in
+    let c = good-inside closeKind _ (only-good closeKind rs g (h .close)) in
     record {
       legs = (h .a-leg, omega (arith, o .legs, o .few (omega arith)));
       angles =
           λ k i. rw (List·getD-map angleOf (pick turns rs) k none)
           (angle-small _ (picked-at turns rs g k (omega (arith, order-long (o .order)))));
-      distances = λ k i. rw (List·getD-map distanceOf (pick isLeg rs) k none) (distance-small _ (picked-at isLeg rs g k i));
+      distances =
+          λ k i. rw (List·getD-map distanceOf (pick isLeg rs) k none)
+          (distance-small _ (picked-at isLeg rs g k i));
       elevation = p .1 .0;
       scale = scaled _ rs g (rows-mean (d .last) rs _ (run .0) .0 (o .held));
       from = (plain _ _ _ (s .0) .1, plain _ _ _ (s .1 .0) .1);

@@ -1,12 +1,13 @@
--- From a place on, a tape is exactly these records: so it is at the start of a tape that reads, and after each record; and the kind and
--- the numbers there are the record's own. No state of the reader is in any of it.
+-- From a place on, a tape is exactly these records: so it is at the start of a tape that reads, and
+-- after each record; and the kind and the numbers there are the record's own. No state of the
+-- reader is in any of it.
 use Prim.Native.Nat.{ℕ, zero, suc, _+_, _≤_, _<_}
 use native.Mathlib.Omega.{arith}
 use native.Mathlib.Nat.{add-zero, add-assoc}
 use mathlib.Core.Path.{_≡_, sym, _∙_, ap}
 use mathlib.Core.Bool.{true}
 use mathlib.Core.List.{List, [], _∷_, _++_}
-use lib.IntN.{pos}
+use lib.IntN.{ℤ, pos}
 use lib.ListN.{length, getD, drop, length-append, length-drop}
 use lib.Seq.{drop-drop, drop-at}
 use Rattle.records.specs.Bytes.{two, size, num, unsigned, meant}
@@ -22,7 +23,8 @@ use Rattle.tape.proofs.Round.{same-bytes, lawful, reads-next}
 use Rattle.tape.proofs.Walk.{passed}
 
 -- ---- the start
-good-run : (st : State) (at : ℕ) (rs : List Rec) (last : State) → runOf st at rs ≡ Reads last → Good rs
+good-run : (st : State) (at : ℕ) (rs : List Rec) (last : State) → runOf st at rs ≡ Reads last
+    → Good rs
 unfolding runOf
 good-run st at [] last e = tt
 good-run st at (r ∷ rs) last e =
@@ -52,7 +54,13 @@ module _ (tape : List ℕ) (at : ℕ) (r : Rec) (rs : List Rec) (h : Rest tape a
 
   pub whole-there : at + 1 + bodyOf (r .kind) ≤ length tape
   whole-there =
-      omega (arith, long, length-append (bytesOf (r .kind) (r .values)) (tapeOf rs), ap length front, length-drop at tape)
+      omega (
+        arith,
+        long,
+        length-append (bytesOf (r .kind) (r .values)) (tapeOf rs),
+        ap length front,
+        length-drop at tape,
+      )
 
   pub rest-next : Rest tape (at + 1 + bodyOf (r .kind)) rs
   rest-next =
@@ -68,11 +76,17 @@ module _ (tape : List ℕ) (at : ℕ) (r : Rec) (rs : List Rec) (h : Rest tape a
   numbers-there = rw front (numbers-back (r .kind) (r .values) (tapeOf rs) (h .good .0))
 
 -- the last record ends the tape
-pub last-there : (tape : List ℕ) (at : ℕ) (r : Rec) → Rest tape at (r ∷ []) → at + 1 + bodyOf (r .kind) ≡ length tape
+pub last-there : (tape : List ℕ) (at : ℕ) (r : Rec) → Rest tape at (r ∷ [])
+    → at + 1 + bodyOf (r .kind) ≡ length tape
 unfolding tapeOf
 last-there tape at r h =
     let n = rest-next tape at r [] h in
-    omega (arith, whole-there tape at r [] h, ap length (n .is), length-drop (at + 1 + bodyOf (r .kind)) tape)
+    omega (
+      arith,
+      whole-there tape at r [] h,
+      ap length (n .is),
+      length-drop (at + 1 + bodyOf (r .kind)) tape,
+    )
 
 -- ---- where a number of a record stands: so many bytes into its body; and its field
 abbrev pub offset : List Field → ℕ → ℕ
@@ -84,24 +98,37 @@ abbrev pub fieldAt : List Field → ℕ → Field
 fieldAt fs i =
     getD fs i (record { width = two; coding = unsigned; low = pos 0; high = pos 0 })
 
+-- what the bytes at a place say, as number i of a record
+abbrev pub spelled : List Field → ℕ → List ℕ → ℕ → ℤ
+spelled fs i l p =
+    let f = fieldAt fs i in meant (f .coding) (f .width) (num (f .width) l p)
+
 -- a number of any field, of any kind
 value-in : (fs : List Field) (i : ℕ) (l : List ℕ) (k : ℕ) → i < length fs
-    → let f = fieldAt fs i in getD (numbers fs l k) i (pos 0) ≡ meant (f .coding) (f .width) (num (f .width) l (k + offset fs i))
+    → getD (numbers fs l k) i (pos 0) ≡ spelled fs i l (k + offset fs i)
 value-in [] i l k h = absurd (omega arith)
 value-in (f ∷ fs) zero l k h = rw add-zero
 value-in (f ∷ fs) (suc i) l k h =
-    rw (← add-assoc k (size (f .width)) (offset fs i)) (value-in fs i l (k + size (f .width)) (omega arith))
+    rw (← add-assoc k (size (f .width)) (offset fs i))
+    (value-in fs i l (k + size (f .width)) (omega arith))
 
 module _ (tape : List ℕ) (at : ℕ) (r : Rec) (rs : List Rec) (h : Rest tape at (r ∷ rs)) where
-  pub value-there : (k i p : ℕ) → r .kind ≡ k → i < length (fieldsOf k) → p ≡ at + 1 + offset (fieldsOf k) i
-      → let f = fieldAt (fieldsOf k) i in signed r i ≡ meant (f .coding) (f .width) (num (f .width) tape p)
+  pub value-there : (k i p : ℕ) → r .kind ≡ k → i < length (fieldsOf k)
+      → p ≡ at + 1 + offset (fieldsOf k) i → signed r i ≡ spelled (fieldsOf k) i tape p
   unfolding numbersOf
   value-there k i p kind low e =
       let there : at + (1 + offset (fieldsOf k) i) ≡ p = omega arith in
-      rw (← numbers-there tape at r rs h, kind, value-in (fieldsOf k) i (drop at tape) 1 low, num-drop, there)
+      rw (
+        ← numbers-there tape at r rs h,
+        kind,
+        value-in (fieldsOf k) i (drop at tape) 1 low,
+        num-drop,
+        there,
+      )
 
   -- and one without a sign
-  pub number-there : (k i p : ℕ) → r .kind ≡ k → i < length (fieldsOf k) → fieldAt (fieldsOf k) i .coding ≡ unsigned
+  pub number-there : (k i p : ℕ) → r .kind ≡ k → i < length (fieldsOf k)
+      → fieldAt (fieldsOf k) i .coding ≡ unsigned
       → p ≡ at + 1 + offset (fieldsOf k) i → number r i ≡ num (fieldAt (fieldsOf k) i .width) tape p
   unfolding meant
   number-there k i p kind low c e = rw (value-there k i p kind low e, c)

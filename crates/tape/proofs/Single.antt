@@ -1,6 +1,6 @@
--- Any two outcomes that a promise of this crate allows coincide: a tape reads in one way, with one set of fields, or is refused with one number
--- and place, and what stands at a place of it is one sight. It is true because each promise says what the outcome equals, from what was given
--- alone.
+-- Any two outcomes that a promise of this crate allows coincide: a tape reads in one way, with one
+-- set of fields, or is refused with one number and place, and what stands at a place of it is one
+-- sight. It is true because each promise says what the outcome equals, from what was given alone.
 use mathlib.Core.Path.{_≡_, sym, _∙_}
 use mathlib.Core.List.{List}
 use Prim.Native.Nat.{ℕ}
@@ -17,5 +17,6 @@ read-single tape x y e f = e ∙ sym f
 pub take-single : (tape : List ℕ) (x y : Taken) → x ≡ takenOf tape → y ≡ takenOf tape → x ≡ y
 take-single tape x y e f = e ∙ sym f
 
-pub sight-single : (tape : List ℕ) (at : ℕ) (x y : Sight) → x ≡ sightAt tape at → y ≡ sightAt tape at → x ≡ y
+pub sight-single : (tape : List ℕ) (at : ℕ) (x y : Sight) → x ≡ sightAt tape at
+    → y ≡ sightAt tape at → x ≡ y
 sight-single tape at x y e f = e ∙ sym f

@@ -1,5 +1,6 @@
--- Where the records of a tape that reads stand: seven bytes a row before the project, the start and the legs after it, and the close at
--- the end. So each field is at a place that the last state and the tape's length tell.
+-- Where the records of a tape that reads stand: seven bytes a row before the project, the start and
+-- the legs after it, and the close at the end. So each field is at a place that the last state and
+-- the tape's length tell.
 use Prim.Native.Nat.{ℕ, zero, suc, _+_, _-_, _*_, _≤_, _<_}
 use native.Mathlib.Omega.{arith}
 use mathlib.Core.Path.{_≡_, refl, sym, _∙_, ap}
@@ -11,9 +12,11 @@ use lib.ListN.{length}
 use borrow.Author.Tests.{eqb-true, eq-eqb, ne-eqb}
 use Rattle.whole.specs.declared.Whole.{Whole}
 use Rattle.records.specs.Bytes.{two, four, num, meant, unsigned, twosComplement}
-use Rattle.records.specs.Record.{Rec, rowKind, projectKind, startKind, legKind, closeKind, fieldsOf, table, bodyOf}
+use Rattle.records.specs.Record.{Rec, rowKind, projectKind, startKind, legKind, closeKind, fieldsOf}
+use Rattle.records.specs.Record.{table, bodyOf}
 use Rattle.tape.specs.Tape.{atRows, closed, isLeg, start, recordsOf, readingOf, told}
-use Rattle.tape.specs.Fields.{signed, number, pick, only, placeOf, isRow, scaleOf, picked, controlOf, takenIf, takenOf, ReadsTo, DoesRead}
+use Rattle.tape.specs.Fields.{signed, number, pick, only, placeOf, isRow, scaleOf, picked}
+use Rattle.tape.specs.Fields.{controlOf, takenIf, takenOf, ReadsTo, DoesRead}
 use Rattle.tape.specs.Fields.{fieldsOf as named}
 use Rattle.tape.specs.Legs.{Rest, Legs, last, leg, Order, row as a-row, opens}
 use Rattle.tape.specs.declared.State.{State}
@@ -25,12 +28,14 @@ use Rattle.tape.proofs.Coming as by
 use Rattle.tape.proofs.Coming.{Came, came}
 use Rattle.tape.proofs.Ordered.{ordered, order-of, no-rows}
 use Rattle.tape.proofs.Picks.{pick-yes, skips, place-on, place-here, place-skips, only-first}
-use Rattle.tape.proofs.Rest.{offset, fieldAt, whole-there, rest-start, rest-next, last-there, value-there, number-there}
+use Rattle.tape.proofs.Rest.{offset, fieldAt, whole-there, rest-start, rest-next, last-there}
+use Rattle.tape.proofs.Rest.{value-there, number-there}
 use Rattle.tape.proofs.Round.{lawful}
 use Rattle.tape.proofs.Rows.{Runs, done, more, runs}
 
 -- the place after a record of kind k
-after : (tape : List ℕ) (at k p : ℕ) (r : Rec) (rs : List Rec) → Rest tape at (r ∷ rs) → r .kind ≡ k → p ≡ at + 1 + bodyOf k → Rest tape p rs
+after : (tape : List ℕ) (at k p : ℕ) (r : Rec) (rs : List Rec) → Rest tape at (r ∷ rs)
+    → r .kind ≡ k → p ≡ at + 1 + bodyOf k → Rest tape p rs
 after tape at k p r rs h e f = rw (f, ← e) (rest-next tape at r rs h)
 
 -- ---- the project, the start, and where the line begins
@@ -47,7 +52,8 @@ record Found (tape : List ℕ) (rs : List Rec) (at q : ℕ) : Type 0 where
   is-start : only startKind rs ≡ s
   line : placeOf isLeg at rs ≡ q + 18
 
-found : (tape : List ℕ) {rs : List Rec} → Order rs → (at q : ℕ) → Rest tape at rs → q ≡ at + 7 * length (pick (eqb rowKind) rs)
+found : (tape : List ℕ) {rs : List Rec} → Order rs → (at q : ℕ) → Rest tape at rs
+    → q ≡ at + 7 * length (pick (eqb rowKind) rs)
     → Found tape rs at q
 unfolding bodyOf fieldsOf table
 found tape (a-row r {rs} e o) at q h f =
@@ -68,8 +74,9 @@ found tape (a-row r {rs} e o) at q h f =
     }
 found tape (opens p s l {rs} one second is legs) at q h f =
     let none = no-rows (leg l is legs) in
-    let here : q ≡ at =
-    f ∙ rw (skips (eqb rowKind) projectKind p (s ∷ l ∷ rs) one refl, skips (eqb rowKind) startKind s (l ∷ rs) second refl, none) (omega arith) in
+    let no-project = skips (eqb rowKind) projectKind p (s ∷ l ∷ rs) one refl in
+    let no-start = skips (eqb rowKind) startKind s (l ∷ rs) second refl in
+    let here : q ≡ at = f ∙ rw (no-project, no-start, none) (omega arith) in
     let g = after tape at projectKind (at + 5) p (s ∷ l ∷ rs) h one (omega arith) in
     rw here
     (record {
@@ -82,10 +89,13 @@ found tape (opens p s l {rs} one second is legs) at q h f =
       ss = l ∷ rs;
       begins = g;
       begins-kind = second;
-      is-start = rw (skips (eqb startKind) projectKind p (s ∷ l ∷ rs) one refl) (only-first startKind s (l ∷ rs) second);
+      is-start =
+          rw (skips (eqb startKind) projectKind p (s ∷ l ∷ rs) one refl)
+          (only-first startKind s (l ∷ rs) second);
       line =
           place-skips isLeg projectKind p (s ∷ l ∷ rs) one refl at (at + 5) (omega arith)
-          ∙ place-skips isLeg startKind s (l ∷ rs) second refl (at + 5) (at + 18) (omega arith) ∙ place-here isLeg l rs (at + 18) is;
+          ∙ place-skips isLeg startKind s (l ∷ rs) second refl (at + 5) (at + 18) (omega arith)
+          ∙ place-here isLeg l rs (at + 18) is;
     })
 
 -- ---- the close, which ends the tape
@@ -98,7 +108,8 @@ record Shut (tape : List ℕ) (rs : List Rec) (at : ℕ) : Type 0 where
   placed : placeOf (eqb closeKind) at rs ≡ place
 
 -- past a record of another kind
-shut-on : (tape : List ℕ) (at k : ℕ) (r : Rec) (rs : List Rec) → r .kind ≡ k → eqb closeKind k ≡ false → Shut tape rs (at + 1 + bodyOf (r .kind))
+shut-on : (tape : List ℕ) (at k : ℕ) (r : Rec) (rs : List Rec) → r .kind ≡ k
+    → eqb closeKind k ≡ false → Shut tape rs (at + 1 + bodyOf (r .kind))
     → Shut tape (r ∷ rs) at
 shut-on tape at k r rs e f i =
     record {
@@ -121,17 +132,22 @@ shut-legs tape (last r e) at h =
       placed = place-here (eqb closeKind) r [] at (eq-eqb closeKind (r .kind) (sym e));
     }
 shut-legs tape (leg r {rs} e l) at h =
-    shut-on tape at legKind r rs (eqb-true (r .kind) legKind e) refl (shut-legs tape l _ (rest-next tape at r rs h))
+    shut-on tape at legKind r rs (eqb-true (r .kind) legKind e) refl
+    (shut-legs tape l _ (rest-next tape at r rs h))
 
 shut : (tape : List ℕ) {rs : List Rec} → Order rs → (at : ℕ) → Rest tape at rs → Shut tape rs at
-shut tape (a-row r {rs} e o) at h = shut-on tape at rowKind r rs e refl (shut tape o _ (rest-next tape at r rs h))
+shut tape (a-row r {rs} e o) at h =
+    shut-on tape at rowKind r rs e refl (shut tape o _ (rest-next tape at r rs h))
 shut tape (opens p s l {rs} one second is legs) at h =
     let g = rest-next tape at p (s ∷ l ∷ rs) h in
+    let line = shut-legs tape (leg l is legs) _ (rest-next tape _ s (l ∷ rs) g) in
     shut-on tape at projectKind p (s ∷ l ∷ rs) one refl
-    (shut-on tape _ startKind s (l ∷ rs) second refl (shut-legs tape (leg l is legs) _ (rest-next tape _ s (l ∷ rs) g)))
+    (shut-on tape _ startKind s (l ∷ rs) second refl line)
 
--- ---- the row of a latitude is as many rows on as its minute is above the first. After the project no row comes
-still-by : {st u : State} {k : ℕ} {vs : List ℤ} → Came st k vs u → 1 ≤ st .phase → (1 ≤ u .phase) × (st .rows ≡ u .rows)
+-- ---- the row of a latitude is as many rows on as its minute is above the first. After the project
+-- no row comes
+still-by : {st u : State} {k : ℕ} {vs : List ℤ} → Came st k vs u → 1 ≤ st .phase
+    → (1 ≤ u .phase) × (st .rows ≡ u .rows)
 still-by (by.row k p f n e) h = absurd (omega arith)
 still-by (by.project k p i e) h = absurd (omega arith)
 still-by (by.start k p e) h = rw e (omega arith, refl)
@@ -140,15 +156,19 @@ still-by (by.close k p e) h = rw e (omega arith, refl)
 
 still : {st end : State} {rs : List Rec} → Runs st rs end → 1 ≤ st .phase → st .rows ≡ end .rows
 still done h = refl
-still (more {st} {st′} {r = r} e p) h = let i = still-by (came st st′ (r .kind) true (r .values) e) h in i .1 ∙ still p (i .0)
+still (more {st} {st′} {r = r} e p) h =
+    let i = still-by (came st st′ (r .kind) true (r .values) e) h in i .1 ∙ still p (i .0)
 
 module _ (tape : List ℕ) (end : State) (m : ℕ) where
-  -- the records rs, read from st on, have the row of the minute m as the j-th from here, at the place at
+  -- the records rs, read from st on, have the row of the minute m as the j-th from here, at the
+  -- place at
   abbrev Scaled : State → List Rec → Type 0
-  Scaled st rs = (j at p : ℕ) → Rest tape at rs → m + end .rows ≡ end .next + st .rows + j → st .rows + j < end .rows → p ≡ at + 7 * j + 3
-      → scaleOf m rs ≡ num four tape p
+  Scaled st rs =
+      (j at p : ℕ) → Rest tape at rs → m + end .rows ≡ end .next + st .rows + j
+      → st .rows + j < end .rows → p ≡ at + 7 * j + 3 → scaleOf m rs ≡ num four tape p
 
-  row-scale : (st u : State) (r : Rec) (rs : List Rec) → r .kind ≡ rowKind → u .rows ≡ st .rows + 1 → number r 0 + end .rows ≡ end .next + st .rows
+  row-scale : (st u : State) (r : Rec) (rs : List Rec) → r .kind ≡ rowKind → u .rows ≡ st .rows + 1
+      → number r 0 + end .rows ≡ end .next + st .rows
       → Scaled u rs → Scaled st (r ∷ rs)
   unfolding scaleOf isRow bodyOf fieldsOf table
   row-scale st u r rs e f g ih zero at p h due low place =
@@ -156,12 +176,15 @@ module _ (tape : List ℕ) (end : State) (m : ℕ) where
       (number-there tape at r rs h rowKind 1 p e (omega arith) refl (omega arith))
   row-scale st u r rs e f g ih (suc j) at p h due low place =
       rw (ne-eqb (number r 0) m (λ z. omega arith), eq-eqb (r .kind) rowKind e)
-      (ih j (at + 7) p (after tape at rowKind (at + 7) r rs h e (omega arith)) (omega arith) (omega arith) (omega arith))
+      (ih j (at + 7) p (after tape at rowKind (at + 7) r rs h e (omega arith)) (omega arith)
+      (omega arith) (omega arith))
 
-  too-late : (st u : State) {r : Rec} (rs : List Rec) → Runs u rs end → u .rows ≡ st .rows → 1 ≤ u .phase → Scaled st (r ∷ rs)
+  too-late : (st u : State) {r : Rec} (rs : List Rec) → Runs u rs end → u .rows ≡ st .rows
+      → 1 ≤ u .phase → Scaled st (r ∷ rs)
   too-late st u rs run rows phase j at p h due low place = absurd (omega (arith, still run phase))
 
-  scale-by : {st u : State} {r : Rec} {rs : List Rec} → Came st (r .kind) (r .values) u → Runs u rs end → end .phase ≡ closed
+  scale-by : {st u : State} {r : Rec} {rs : List Rec} → Came st (r .kind) (r .values) u
+      → Runs u rs end → end .phase ≡ closed
       → (u .phase ≡ atRows → Scaled u rs) → Scaled st (r ∷ rs)
   scale-by {st} {u} {r} {rs} (by.row k p f n e) run shut ih =
       let o = ordered run shut (rw e) in
@@ -169,12 +192,17 @@ module _ (tape : List ℕ) (end : State) (m : ℕ) where
       let next = ap (λ (x : State). x .next) e in
       let on = o .next (omega arith) in
       row-scale st u r rs k rows (omega arith) (ih (rw e))
-  scale-by {st} {u} {rs = rs} (by.project k p i e) run shut ih = too-late st u rs run (rw e) (rw e (omega arith))
-  scale-by {st} {u} {rs = rs} (by.start k p e) run shut ih = too-late st u rs run (rw e) (rw e (omega arith))
-  scale-by {st} {u} {rs = rs} (by.leg k p f e) run shut ih = too-late st u rs run (rw e) (rw e (omega arith))
-  scale-by {st} {u} {rs = rs} (by.close k p e) run shut ih = too-late st u rs run (rw e) (rw e (omega arith))
+  scale-by {st} {u} {rs = rs} (by.project k p i e) run shut ih =
+      too-late st u rs run (rw e) (rw e (omega arith))
+  scale-by {st} {u} {rs = rs} (by.start k p e) run shut ih =
+      too-late st u rs run (rw e) (rw e (omega arith))
+  scale-by {st} {u} {rs = rs} (by.leg k p f e) run shut ih =
+      too-late st u rs run (rw e) (rw e (omega arith))
+  scale-by {st} {u} {rs = rs} (by.close k p e) run shut ih =
+      too-late st u rs run (rw e) (rw e (omega arith))
 
-  scale-run : {st : State} {rs : List Rec} → Runs st rs end → end .phase ≡ closed → st .phase ≡ atRows → Scaled st rs
+  scale-run : {st : State} {rs : List Rec} → Runs st rs end → end .phase ≡ closed
+      → st .phase ≡ atRows → Scaled st rs
   scale-run done f h = absurd (omega arith)
   scale-run (more {st} {st′} {r = r} {rs = rs} e p) f h =
       scale-by {st = st} {u = st′} {r = r} {rs = rs} (came st st′ (r .kind) true (r .values) e) p f
@@ -186,7 +214,9 @@ module _ (tape : List ℕ) (last : State) (to : ReadsTo tape last) where
   does = record { last = last; reads = to .reads }
 
   opening : Found tape (recordsOf tape) 0 (last .rows * 7)
-  opening = found tape (order-of tape does .order) 0 _ (rest-start tape (to .bytes) does) (omega (arith, order-of tape does .rows))
+  opening =
+      found tape (order-of tape does .order) 0 _ (rest-start tape (to .bytes) does)
+      (omega (arith, order-of tape does .rows))
 
   closing : Shut tape (recordsOf tape) 0
   closing = shut tape (order-of tape does .order) 0 (rest-start tape (to .bytes) does)
@@ -195,11 +225,16 @@ module _ (tape : List ℕ) (last : State) (to : ReadsTo tape last) where
   unfolding bodyOf fieldsOf table
   long =
       let b = opening in
-      omega (arith, rw (b .begins-kind) at (whole-there tape (last .rows * 7 + 5) (b .s) (b .ss) (b .begins)))
+      omega (
+        arith,
+        rw (b .begins-kind) at (whole-there tape (last .rows * 7 + 5) (b .s) (b .ss) (b .begins)),
+      )
 
   close-long : closing .place + 17 ≡ length tape
   unfolding bodyOf fieldsOf table
-  close-long = let c = closing in omega (arith, rw (c .four-is) at (last-there tape (c .place) (c .c) (c .close)))
+  close-long =
+      let c = closing in
+      omega (arith, rw (c .four-is) at (last-there tape (c .place) (c .c) (c .close)))
 
   pub ends : 17 ≤ length tape
   ends = omega (arith, close-long)
@@ -210,7 +245,9 @@ module _ (tape : List ℕ) (last : State) (to : ReadsTo tape last) where
     unfolding fieldsOf table
     latitude-is =
         let b = opening in
-        rw (b .is-project, e) (number-there tape _ (b .p) (b .ps) (b .project) projectKind 0 _ (b .one) (omega arith) refl (omega arith))
+        rw (b .is-project, e)
+        (number-there tape _ (b .p) (b .ps) (b .project) projectKind 0 _ (b .one) (omega arith) refl
+        (omega arith))
 
     under : m < last .next
     under = rw (← latitude-is) (order-of tape does .held .0)
@@ -224,7 +261,8 @@ module _ (tape : List ℕ) (last : State) (to : ReadsTo tape last) where
         let run = runs start 0 (recordsOf tape) last (lawful tape last (to .reads)) in
         let high = under in
         let low = row-low in
-        scale-run tape last m (run .0) (run .1) refl (last .rows - (last .next - m)) 0 _ (rest-start tape (to .bytes) does) (omega arith) (omega arith) (omega arith)
+        scale-run tape last m (run .0) (run .1) refl (last .rows - (last .next - m)) 0 _
+        (rest-start tape (to .bytes) does) (omega arith) (omega arith) (omega arith)
 
   pub row-high : num two tape (last .rows * 7 + 1) < last .next
   row-high = under _ refl
@@ -232,35 +270,46 @@ module _ (tape : List ℕ) (last : State) (to : ReadsTo tape last) where
   legs-are : length (pick isLeg (recordsOf tape)) ≡ last .legs
   legs-are = omega (arith, order-of tape does .legs)
 
-  elevation-is : signed (only projectKind (recordsOf tape)) 1 ≡ meant twosComplement two (num two tape (last .rows * 7 + 3))
+  elevation-is : signed (only projectKind (recordsOf tape)) 1
+      ≡ meant twosComplement two (num two tape (last .rows * 7 + 3))
   unfolding fieldsOf table
   elevation-is =
       let b = opening in
-      rw (b .is-project) (value-there tape _ (b .p) (b .ps) (b .project) projectKind 1 _ (b .one) (omega arith) (omega arith))
+      rw (b .is-project)
+      (value-there tape _ (b .p) (b .ps) (b .project) projectKind 1 _ (b .one) (omega arith)
+      (omega arith))
 
   -- the numbers of the start and of the close
-  begins-number : (i p : ℕ) → i < length (fieldsOf startKind) → fieldAt (fieldsOf startKind) i .coding ≡ unsigned
+  begins-number : (i p : ℕ) → i < length (fieldsOf startKind)
+      → fieldAt (fieldsOf startKind) i .coding ≡ unsigned
       → p ≡ last .rows * 7 + 5 + 1 + offset (fieldsOf startKind) i
-      → number (only startKind (recordsOf tape)) i ≡ num (fieldAt (fieldsOf startKind) i .width) tape p
+      → number (only startKind (recordsOf tape)) i ≡ num
+      (fieldAt (fieldsOf startKind) i .width) tape p
   begins-number i p low c e =
       let b = opening in
-      rw (b .is-start) (number-there tape _ (b .s) (b .ss) (b .begins) startKind i p (b .begins-kind) low c e)
+      rw (b .is-start)
+      (number-there tape _ (b .s) (b .ss) (b .begins) startKind i p (b .begins-kind) low c e)
 
-  closes-number : (i p : ℕ) → i < length (fieldsOf closeKind) → fieldAt (fieldsOf closeKind) i .coding ≡ unsigned
+  closes-number : (i p : ℕ) → i < length (fieldsOf closeKind)
+      → fieldAt (fieldsOf closeKind) i .coding ≡ unsigned
       → p ≡ closing .place + 1 + offset (fieldsOf closeKind) i
-      → number (only closeKind (recordsOf tape)) i ≡ num (fieldAt (fieldsOf closeKind) i .width) tape p
+      → number (only closeKind (recordsOf tape)) i ≡ num
+      (fieldAt (fieldsOf closeKind) i .width) tape p
   closes-number i p low c e =
       let b = closing in
       rw (b .is-close) (number-there tape _ (b .c) [] (b .close) closeKind i p (b .four-is) low c e)
 
   -- what the code takes from the places is the fields
-  pub control-is : (at begin line : ℕ) (elevation : Whole) (latitude scale north east mark to-north to-east given : ℕ)
+  pub control-is : (at begin line : ℕ) (elevation : Whole)
+      (latitude scale north east mark to-north to-east given : ℕ)
       → begin ≡ last .rows * 7 + 5 → line ≡ begin + 13 → at ≡ length tape - 17
       → latitude ≡ num two tape (last .rows * 7 + 1)
       → elevation .v ≡ meant twosComplement two (num two tape (last .rows * 7 + 3))
       → scale ≡ num four tape ((last .rows - (last .next - latitude)) * 7 + 3)
-      → north ≡ num four tape (begin + 1) → east ≡ num four tape (begin + 5) → mark ≡ num four tape (begin + 9)
-      → to-north ≡ num four tape (at + 5) → to-east ≡ num four tape (at + 9) → given ≡ num four tape (at + 13)
+      → north ≡ num four tape (begin + 1) → east ≡ num four tape (begin + 5)
+      → mark ≡ num four tape (begin + 9)
+      → to-north ≡ num four tape (at + 5) → to-east ≡ num four tape (at + 9)
+      → given ≡ num four tape (at + 13)
       → record {
         legs = last .legs;
         line = line;
@@ -273,10 +322,13 @@ module _ (tape : List ℕ) (last : State) (to : ReadsTo tape last) where
         place = at;
       } ≡ controlOf (named tape)
   unfolding picked fieldsOf table
-  control-is at begin line elevation latitude scale north east mark to-north to-east given a b c d e f g h i j k l =
+  control-is at begin line elevation latitude scale north east mark to-north to-east given
+      a b c d e f g h i j k l =
       let close : at ≡ closing .place = omega (arith, close-long) in
       let begins : line ≡ last .rows * 7 + 18 = omega arith in
-      let high : elevation ≡ record { v = meant twosComplement two (num two tape (last .rows * 7 + 3)) } = rw (← e) in
+      let high : elevation ≡ record {
+        v = meant twosComplement two (num two tape (last .rows * 7 + 3));
+      } = rw (← e) in
       rw (
         legs-are,
         opening .line,
@@ -304,7 +356,8 @@ module _ (tape : List ℕ) (last : State) (to : ReadsTo tape last) where
 
 -- ---- the answer: r is what the reading answered
 module _ (tape : List ℕ) (r : Reading) (e : r ≡ readingOf tape) where
-  pub taken-reads : (a : State) (c : Control) → r ≡ Reads a → c ≡ controlOf (named tape) → taken.Reads c ≡ takenOf tape
+  pub taken-reads : (a : State) (c : Control) → r ≡ Reads a → c ≡ controlOf (named tape)
+      → taken.Reads c ≡ takenOf tape
   unfolding takenOf
   taken-reads a c h g = rw (← e, h, g)
 
@@ -313,25 +366,32 @@ module _ (tape : List ℕ) (r : Reading) (e : r ≡ readingOf tape) where
   taken-refused n p h = rw (← e, h)
 
   -- and what is told of it
-  pub told-reads : (a : State) → r ≡ Reads a → record { number = 0; place = 0 } ≡ told (readingOf tape)
+  pub told-reads : (a : State) → r ≡ Reads a
+      → record { number = 0; place = 0 } ≡ told (readingOf tape)
   told-reads a h = rw (← e, h)
 
-  pub told-refused : (n p : ℕ) → r ≡ Refused n p → record { number = n; place = p } ≡ told (readingOf tape)
+  pub told-refused : (n p : ℕ) → r ≡ Refused n p
+      → record { number = n; place = p } ≡ told (readingOf tape)
   told-refused n p h = rw (← e, h)
 
--- ---- and what a caller learns from it: the tape reads, and the control is its own, or the reading is the refusal
-pub took : (tape : List ℕ) (c : Control) → takenOf tape ≡ taken.Reads c → DoesRead tape × (c ≡ controlOf (named tape))
+-- ---- and what a caller learns from it: the tape reads, and the control is its own, or the reading
+-- is the refusal
+pub took : (tape : List ℕ) (c : Control) → takenOf tape ≡ taken.Reads c
+    → DoesRead tape × (c ≡ controlOf (named tape))
 unfolding takenOf
 took tape c = go (readingOf tape) refl
   where
-    go : (r : Reading) → readingOf tape ≡ r → takenIf r (named tape) ≡ taken.Reads c → DoesRead tape × (c ≡ controlOf (named tape))
+    go : (r : Reading) → readingOf tape ≡ r → takenIf r (named tape) ≡ taken.Reads c
+        → DoesRead tape × (c ≡ controlOf (named tape))
     go (Reads st) e h = (record { last = st; reads = e }, cc)
     go (Refused n p) e h = let z : _≡_ {A = ℕ} 0 1 = cc in absurd (omega arith)
 
-pub took-not : (tape : List ℕ) (n p : ℕ) → takenOf tape ≡ taken.Refused n p → readingOf tape ≡ Refused n p
+pub took-not : (tape : List ℕ) (n p : ℕ) → takenOf tape ≡ taken.Refused n p
+    → readingOf tape ≡ Refused n p
 unfolding takenOf
 took-not tape n p = go (readingOf tape) refl
   where
-    go : (r : Reading) → readingOf tape ≡ r → takenIf r (named tape) ≡ taken.Refused n p → readingOf tape ≡ Refused n p
+    go : (r : Reading) → readingOf tape ≡ r → takenIf r (named tape) ≡ taken.Refused n p
+        → readingOf tape ≡ Refused n p
     go (Reads st) e h = let z : _≡_ {A = ℕ} 0 1 = cc in absurd (omega arith)
     go (Refused m q) e h = e ∙ cc

@@ -1,4 +1,5 @@
--- `lend_on` meets its contract: the part from the place on, lent to the writer of the record's kind, has room for the record, and comes back with it.
+-- `lend_on` meets its contract: the part from the place on, lent to the writer of the record's
+-- kind, has room for the record, and comes back with it.
 use borrow.Author.Needs.{needs}
 use Rattle.records.specs.Bytes.{bytes}
 use Rattle.records.specs.Record.{recOf, bytesOf, bodyOf, fieldsOf, table}

@@ -1,4 +1,5 @@
--- `start_good` meets its contract: the code's tests are the bounds of the table's row, one after the other.
+-- `start_good` meets its contract: the code's tests are the bounds of the table's row, one after
+-- the other.
 use mathlib.Core.Bool.{and-assoc, and-true}
 use Rattle.records.specs.Record.{goodOf, fieldsOf, table}
 use Rattle.records.proofs.Tests.{tests}

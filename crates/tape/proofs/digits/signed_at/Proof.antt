@@ -1,4 +1,5 @@
--- `signed_at` meets its contract: the lower half is the number itself, the upper half counts down from -1.
+-- `signed_at` meets its contract: the lower half is the number itself, the upper half counts down
+-- from -1.
 use borrow.Author.Needs.{needs}
 use Rattle.tape.proofs.Numbers.{meant-plain, meant-below}
 use Rattle.tape.proofs.digits.signed_at.Statement.{statement}

@@ -1,7 +1,9 @@
--- `close` meets its contract: nothing else may stand there, for the legs are behind, and without a leg it may not either.
+-- `close` meets its contract: nothing else may stand there, for the legs are behind, and without a
+-- leg it may not either.
 use borrow.Author.Needs.{needs}
 use Rattle.records.specs.Record.{bodyOf, fieldsOf, table}
-use Rattle.tape.proofs.Passing.{due-within, no-close, close-early, close-short, close-passes, close-bad}
+use Rattle.tape.proofs.Passing.{due-within, no-close, close-early, close-short, close-passes}
+use Rattle.tape.proofs.Passing.{close-bad}
 use Rattle.tape.proofs.order.close.Statement.{statement}
 use Rattle.tape.proofs.order.close.Tie as tie
 

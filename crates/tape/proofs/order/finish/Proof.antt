@@ -1,4 +1,5 @@
--- `finish` meets its contract: the close is refused, or after it stands one record too many, or the tape is read.
+-- `finish` meets its contract: the close is refused, or after it stands one record too many, or the
+-- tape is read.
 use borrow.Author.Needs.{needs}
 use Rattle.records.specs.Record.{bodyOf, fieldsOf, table}
 use Rattle.tape.proofs.Parts.{more-after, all-read}

@@ -1,9 +1,10 @@
--- `line` meets its contract. The loop's invariant: the reading from the cursor is that from the first leg on. The measure is what is
--- left of the tape.
+-- `line` meets its contract. The loop's invariant: the reading from the cursor is that from the
+-- first leg on. The measure is what is left of the tape.
 use Prim.Native.Nat.{_-_}
 use borrow.Author.Needs.{needs}
 use lib.ListN.{length}
-use Rattle.tape.proofs.Parts.{Lining, line-begins, leg-run, line-stopped, line-over, leg-here, leg-past, leg-few, leg-less}
+use Rattle.tape.proofs.Parts.{Lining, line-begins, leg-run, line-stopped, line-over}
+use Rattle.tape.proofs.Parts.{leg-here, leg-past, leg-few, leg-less}
 use Rattle.tape.proofs.order.line.Statement.{statement}
 use Rattle.tape.proofs.order.line.Tie as tie
 

@@ -1,8 +1,9 @@
--- `opening` meets its contract: the rows are followed by the project, and the project by the start, or the reading is the first
--- refusal among them.
+-- `opening` meets its contract: the rows are followed by the project, and the project by the start,
+-- or the reading is the first refusal among them.
 use borrow.Author.Needs.{needs}
 use Rattle.records.specs.Record.{bodyOf, fieldsOf, table}
-use Rattle.tape.proofs.Parts.{rows-refused, rows-phase, rows-none, project-refused, past-phase, start-refused, start-read}
+use Rattle.tape.proofs.Parts.{rows-refused, rows-phase, rows-none, project-refused}
+use Rattle.tape.proofs.Parts.{past-phase, start-refused, start-read}
 use Rattle.tape.proofs.order.opening.Statement.{statement}
 use Rattle.tape.proofs.order.opening.Tie as tie
 
@@ -17,14 +18,16 @@ unfolding bodyOf fieldsOf table
 returns-2 c = search project-refused
 
 past-record-requires : tie.Need-past-record-requires
-past-record-requires c κs = let w = c .before .project .ensures .within (c .if2 .left) in search needs
+past-record-requires c κs =
+    let w = c .before .project .ensures .within (c .if2 .left) in search needs
 
 returns-3 : tie.Need-returns-3
 unfolding bodyOf fieldsOf table
 returns-3 c = search start-refused
 
 past-record-requires-2 : tie.Need-past-record-requires-2
-past-record-requires-2 c κs = let w = c .before .start .ensures .within (c .if3 .left) in search needs
+past-record-requires-2 c κs =
+    let w = c .before .start .ensures .within (c .if3 .left) in search needs
 
 returns-4 : tie.Need-returns-4
 unfolding bodyOf fieldsOf table

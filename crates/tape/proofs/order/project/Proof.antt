@@ -1,7 +1,9 @@
--- `project` meets its contract: nothing else may stand there, for the rows are behind, and the latitude is among their minutes or is refused.
+-- `project` meets its contract: nothing else may stand there, for the rows are behind, and the
+-- latitude is among their minutes or is refused.
 use borrow.Author.Needs.{needs}
 use Rattle.records.specs.Record.{bodyOf, fieldsOf, table}
-use Rattle.tape.proofs.Passing.{due-within, no-project, project-short, above-rows, below-rows, project-passes, project-bad}
+use Rattle.tape.proofs.Passing.{due-within, no-project, project-short, above-rows}
+use Rattle.tape.proofs.Passing.{below-rows, project-passes, project-bad}
 use Rattle.tape.proofs.order.project.Statement.{statement}
 use Rattle.tape.proofs.order.project.Tie as tie
 

@@ -1,4 +1,5 @@
--- `row` meets its contract: the fields are tested first, then the minute, which the first row may choose.
+-- `row` meets its contract: the fields are tested first, then the minute, which the first row may
+-- choose.
 use borrow.Author.Needs.{needs}
 use Rattle.records.specs.Record.{bodyOf, fieldsOf, table}
 use Rattle.tape.proofs.Passing.{row-first, row-next, row-out, row-bad}

@@ -1,10 +1,11 @@
--- `rows` meets its contract. The loop's invariant: so many rows are read, seven bytes each, and the reading from the cursor is that of
--- the whole tape. The measure is what is left of the tape.
+-- `rows` meets its contract. The loop's invariant: so many rows are read, seven bytes each, and the
+-- reading from the cursor is that of the whole tape. The measure is what is left of the tape.
 use Prim.Native.Nat.{_-_}
 use borrow.Author.Needs.{needs}
 use lib.ListN.{length}
 use Rattle.records.specs.Record.{bodyOf, fieldsOf, table}
-use Rattle.tape.proofs.Parts.{Along, rows-begin, row-here, row-fits, row-few, row-less, row-run, rows-stopped, rows-over}
+use Rattle.tape.proofs.Parts.{Along, rows-begin, row-here, row-fits, row-few, row-less}
+use Rattle.tape.proofs.Parts.{row-run, rows-stopped, rows-over}
 use Rattle.tape.proofs.order.rows.Statement.{statement}
 use Rattle.tape.proofs.order.rows.Tie as tie
 

@@ -37,7 +37,9 @@ returns c =
     let g = f .before .before .before .before in
     let h = g .before .before .before .before in
     let s = h .before .before .before in
-    close-stored (now (s .args .out)) _ _ _ _ _ _ _ _ _ (d .put-four4 .ensures) (e .put-four3 .ensures) (f .put-four2 .ensures) (g .put-four .ensures) (h .put-kind .ensures) (s .pre)
+    close-stored (now (s .args .out)) _ _ _ _ _ _ _ _ _ (d .put-four4 .ensures)
+    (e .put-four3 .ensures) (f .put-four2 .ensures) (g .put-four .ensures) (h .put-kind .ensures)
+    (s .pre)
 
 pub put-close-spec : {M : Type 1} → statement M
 put-close-spec =

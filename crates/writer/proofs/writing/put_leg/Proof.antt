@@ -27,7 +27,8 @@ returns c =
     let e = d .before .before .before .before in
     let f = e .before .before .before .before in
     let s = f .before .before .before in
-    leg-stored (now (s .args .out)) _ _ _ _ _ (d .put-four2 .ensures) (e .put-four .ensures) (f .put-kind .ensures) (s .pre)
+    leg-stored (now (s .args .out)) _ _ _ _ _ (d .put-four2 .ensures) (e .put-four .ensures)
+    (f .put-kind .ensures) (s .pre)
 
 pub put-leg-spec : {M : Type 1} → statement M
 put-leg-spec =

@@ -31,7 +31,8 @@ returns c =
     let f = e .before .before .before .before in
     let g = f .before .before in
     let s = g .before .before in
-    project-stored (now (s .args .out)) _ _ _ _ _ _ (d .put-two2 .ensures) (e .put-two .ensures) (f .put-kind .ensures) (g .raw .ensures) (s .pre .0)
+    project-stored (now (s .args .out)) _ _ _ _ _ _ (d .put-two2 .ensures) (e .put-two .ensures)
+    (f .put-kind .ensures) (g .raw .ensures) (s .pre .0)
 
 pub put-project-spec : {M : Type 1} → statement M
 put-project-spec =

@@ -27,7 +27,8 @@ returns c =
     let e = d .before .before .before .before in
     let f = e .before .before .before .before in
     let s = f .before .before .before in
-    row-stored (now (s .args .out)) _ _ _ _ _ (d .put-four .ensures) (e .put-two .ensures) (f .put-kind .ensures) (s .pre)
+    row-stored (now (s .args .out)) _ _ _ _ _ (d .put-four .ensures) (e .put-two .ensures)
+    (f .put-kind .ensures) (s .pre)
 
 pub put-row-spec : {M : Type 1} → statement M
 put-row-spec =

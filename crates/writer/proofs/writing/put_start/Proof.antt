@@ -32,7 +32,8 @@ returns c =
     let f = e .before .before .before .before in
     let g = f .before .before .before .before in
     let s = g .before .before .before in
-    start-stored (now (s .args .out)) _ _ _ _ _ _ _ (d .put-four3 .ensures) (e .put-four2 .ensures) (f .put-four .ensures) (g .put-kind .ensures) (s .pre)
+    start-stored (now (s .args .out)) _ _ _ _ _ _ _ (d .put-four3 .ensures) (e .put-four2 .ensures)
+    (f .put-four .ensures) (g .put-kind .ensures) (s .pre)
 
 pub put-start-spec : {M : Type 1} → statement M
 put-start-spec =
