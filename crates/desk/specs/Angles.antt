@@ -1,10 +1,12 @@
--- Paper 01, "Azimuths and legs", over the fields of a tape: the azimuths carried along the legs, the misclosure W, and the balanced azimuths. Legs are
--- numbered by the station that they leave, from 0; the angle at the last station is the closing one.
+-- Paper 01, "Azimuths and legs", over the fields of a tape: the azimuths carried along the legs,
+-- the misclosure W, and the balanced azimuths. Legs are numbered by the station that they leave,
+-- from 0; the angle at the last station is the closing one.
 use Prim.Native.Nat.{ℕ, _+_}
 use mathlib.Core.List.{List}
 use lib.ListN.{getD, replicate}
 use lib.IntN.{ℤ}
 use Rattle.whole.specs.Filled.{filled}
+use Rattle.answer.specs.Limit.{mostLegs}
 use Rattle.steps.specs.Azimuth.{fromMark, misclosure}
 use Rattle.steps.specs.Distance.{seaLevel, combine}
 use Rattle.tape.specs.Fields.{Fields}
@@ -36,7 +38,7 @@ misclosureOf f = misclosure (carried (turnsOf f) (f .line .legs)) (f .closing .g
 
 -- the list before any leg is balanced
 abbrev pub zeros : List ℕ
-zeros = replicate 64 0
+zeros = replicate mostLegs 0
 
 -- a traverse whose angles are balanced: how many angles share W, the misclosure W, the balanced
 -- azimuth and the measured distance of each leg, the combined factor, the two fixed points, and the

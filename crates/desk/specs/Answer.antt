@@ -1,10 +1,13 @@
--- Paper 01, "Nine refusals" and "Closure and compass rule": what a traverse is answered with, and what is left in the lent words.
+-- Paper 01, "Nine refusals" and "Closure and compass rule": what a traverse is answered with, and
+-- what is left in the lent words.
 use mathlib.Core.Bool.{Bool, false, cond}
 use mathlib.Core.List.{List}
-use Prim.Native.Nat.{ℕ, _+_}
+use Prim.Native.Nat.{ℕ, _+_, _*_}
 use lib.Dec.{ltb}
 use lib.ListN.{length}
 use lib.IntN.{ℤ, pos}
+use Rattle.answer.specs.Limit.{mostLegs}
+use Rattle.answer.specs.Refusal.{noRoom, badAngles, badClosure}
 use Rattle.minutes.specs.Entry.{entry}
 use Rattle.steps.specs.Azimuth.{closesAngles}
 use Rattle.steps.specs.Closure.{closes, precision}
@@ -19,7 +22,17 @@ use Rattle.desk.specs.Traverse.{longOf, line, placed, isLoop, areaOf}
 use Rattle.desk.specs.declared.Answer.{Answer}
 use Rattle.desk.specs.declared.Answer.the-variants.{Refused, Adjusted}
 
--- number, place, n, W, both closures, the precision number, the doubled area and whether it is a loop
+-- "stations 0 to n": one more than there are legs. src/lib.rt has the same name
+abbrev pub mostStations : ℕ
+mostStations = mostLegs + 1
+
+-- "under 130 words for coordinates" there is no room: a northing and an easting for each of
+-- stations 0 to 64. src/lib.rt has the same name
+abbrev pub stationWords : ℕ
+stationWords = 2 * mostStations
+
+-- what is told: number, place, n, W, both closures, the precision number, the doubled area, and
+-- whether the traverse is a loop
 pub record Told : Type 0 where
   pub number : ℕ
   pub place : ℕ
@@ -33,7 +46,18 @@ pub record Told : Type 0 where
 
 -- "A refusal returns number and place, every other number zero"
 abbrev pub refused : ℕ → ℕ → Told
-refused n p = record { number = n; place = p; legs = 0; w = pos 0; north = pos 0; east = pos 0; precision = 0; area = pos 0; loop = false }
+refused n p =
+    record {
+      number = n;
+      place = p;
+      legs = 0;
+      w = pos 0;
+      north = pos 0;
+      east = pos 0;
+      precision = 0;
+      area = pos 0;
+      loop = false;
+    }
 
 abbrev pub told : Answer → Told
 told (Refused n p) = refused n p
@@ -50,13 +74,16 @@ told (Adjusted f) =
       loop = f .looped;
     }
 
--- ---- the first step: refusals 2 to 7 of the reading, then "Refused (8) exactly when its size exceeds 100 x (n+1)", at the close
+-- ---- the first step: refusals 2 to 7 of the reading, then "Refused (8) exactly when its size
+-- exceeds 100 x (n+1)", at the close
 pub data First : Type 0 where
   stopped : ℕ → ℕ → First
   good : Balanced → First
 
 unfoldable pub checkedAngles : Fields → First
-checkedAngles f = cond (closesAngles (misclosureOf f) (f .line .legs)) (good (balancedTraverse f)) (stopped 8 (f .closing .place))
+checkedAngles f =
+    cond (closesAngles (misclosureOf f) (f .line .legs)) (good (balancedTraverse f))
+    (stopped badAngles (f .closing .place))
 
 abbrev pub firstIf : Reading → Fields → First
 firstIf (reading.Refused n p) f = stopped n p
@@ -65,11 +92,12 @@ firstIf (reading.Reads st) f = checkedAngles f
 unfoldable pub firstOf : List ℕ → First
 firstOf tape = firstIf (readingOf tape) (fieldsOf tape)
 
--- "Refusal 1 is tried first", for under 130 words
+-- "Refusal 1 is tried first", "under 130 words for coordinates"
 unfoldable pub firstFor : List ℕ → ℕ → First
-firstFor tape room = cond (ltb room 130) (stopped 1 0) (firstOf tape)
+firstFor tape room = cond (ltb room stationWords) (stopped noRoom 0) (firstOf tape)
 
--- ---- the second step, by the entries e of a table of sines: 9 at the close, or the adjusted traverse
+-- ---- the second step, by the entries e of a table of sines: 9 at the close, or the adjusted
+-- traverse
 abbrev pub northClosure : (ℕ → ℤ) → Balanced → ℤ
 northClosure e b = closure (line e north b)
 
@@ -96,9 +124,10 @@ second e b =
       area = areaOf e b;
       loop = isLoop b;
     })
-    (refused 9 (b .place))
+    (refused badClosure (b .place))
 
--- "Accepted coordinates go to a lent list of signed 64-bit words"; on a refusal "lent memory is untouched"
+-- "Accepted coordinates go to a lent list of signed 64-bit words"; on a refusal "lent memory is
+-- untouched"
 unfoldable pub secondWords : (ℕ → ℤ) → Balanced → List ℤ → List ℤ
 secondWords e b words = cond (closesOn e b) (placed e b (b .legs + 1) words) words
 

@@ -1,5 +1,5 @@
--- What the private functions promise one another: the ranges of a balanced traverse, what the sums hold at a station, and when an answer can be shown. The
--- public promises do not mention any of it.
+-- What the private functions promise one another: the ranges of a balanced traverse, what the sums
+-- hold at a station, and when an answer can be shown. The public promises do not mention any of it.
 use Prim.Native.Nat.{ℕ, zero, suc, _+_, _*_, _^_, _≤_, _<_}
 use mathlib.Core.Path.{_≡_}
 use mathlib.Core.Bool.{true, cond, _&&_}
@@ -7,16 +7,19 @@ use mathlib.Core.List.{List, [], _∷_, _++_}
 use lib.ListN.{length, getD, set}
 use lib.IntN.{ℤ, pos, negℤ, natAbs, _+ℤ_, _-ℤ_}
 use lib.Signed.{leZ}
+use Rattle.answer.specs.Limit.{mostLegs, lowest, highest, leastFactor, mostFactor}
+use Rattle.answer.specs.Limit.{leastDistance, mostDistance, mostCoordinate}
 use Rattle.minutes.specs.Quadrant.{circle}
-use Rattle.steps.specs.Area.{doubled, small as Area·small}
+use Rattle.steps.specs.Area.{mostOffset, doubled, small as Area·small}
 use Rattle.steps.specs.Course.{Axis, north, east, course}
 use Rattle.steps.specs.Azimuth.{balanced}
-use Rattle.steps.specs.Closure.{precision}
-use Rattle.steps.specs.Distance.{grid, seaLevel, combine}
+use Rattle.steps.specs.Closure.{mostClosure, mostSum, precision}
+use Rattle.steps.specs.Distance.{leastCombined, mostCombined, grid, seaLevel, combine}
 use Rattle.steps.specs.Share.{share}
 use Rattle.whole.specs.Filled.{filled}
 use Rattle.desk.specs.Angles.{angleAt, distanceAt, Balanced}
-use Rattle.desk.specs.Answer.{told, First, stopped, good, northClosure, eastClosure, distanceRun}
+use Rattle.desk.specs.Answer.{mostStations, stationWords, told, First, stopped, good}
+use Rattle.desk.specs.Answer.{northClosure, eastClosure, distanceRun}
 use Rattle.desk.specs.Line.{run, preliminary}
 use Rattle.desk.specs.Sheet.{textOf}
 use Rattle.desk.specs.Traverse.{along, longOf, azimuthOf, line, at, same}
@@ -33,6 +36,21 @@ use Rattle.desk.specs.declared.Figures.{Figures}
 use Rattle.desk.specs.declared.Sums.{Sums}
 use Rattle.desk.specs.declared.area.Offsets.{Offsets}
 
+-- the longest grid distance: the longest measured one by the largest combined factor, which is
+-- 20,000,000 x 10,020,010 / 10,000,000
+abbrev pub longestLeg : ℕ
+longestLeg = 20040020
+
+-- the most that a leg moves along an axis, in hundredths of a foot: as far as the longest grid
+-- distance of the step, 20,100,000 thousandths
+abbrev pub mostMove : ℕ
+mostMove = 2010000
+
+-- the sums along the legs stay below this size. The rules keep them far smaller; below 2 ^ 40 one
+-- can be added to another, or taken from it, within 64 bits
+abbrev pub sumBound : ℕ
+sumBound = 2 ^ 40
+
 -- what was taken of a tape that reads
 pub record Known (tape : List ℕ) (c : Control) : Type 0 where
   pub bytes : AllBytes tape
@@ -41,8 +59,9 @@ pub record Known (tape : List ℕ) (c : Control) : Type 0 where
 
 -- what the combined factor is taken of is in the ranges of the tape
 pub record Scaled (c : Control) : Type 0 where
-  pub elevation : (leZ (negℤ (pos 1000)) (c .elevation .v) && leZ (c .elevation .v) (pos 20000)) ≡ true
-  pub scale : (9990000 ≤ c .scale) × (c .scale ≤ 10010000)
+  pub elevation : (leZ (negℤ (pos lowest)) (c .elevation .v)
+      && leZ (c .elevation .v) (pos highest)) ≡ true
+  pub scale : (leastFactor ≤ c .scale) × (c .scale ≤ mostFactor)
 
 -- the traverse with its angles balanced, but for its legs; and with them
 abbrev pub frameOf : Control → ℕ → Whole → Frame
@@ -89,42 +108,43 @@ balancedBy w ahead angles azimuths k = balanced (getD azimuths k 0) (share w (k 
 abbrev pub balancedIn : ℤ → ℕ → ℕ → ℕ → List ℕ → List ℕ
 balancedIn w ahead angles k azimuths = filled (balancedBy w ahead angles azimuths) k azimuths
 
--- 2 to 65 angles that share W, and each leg is at one of them
+-- "n+1 angles" for 1 to 64 legs, so 2 to 65 of them share W, and each leg is at one of them
 pub record Shareable (legs ahead angles : ℕ) : Type 0 where
   pub some : 2 ≤ angles
-  pub few : angles ≤ 65
+  pub few : angles ≤ mostLegs + 1
   pub reach : legs + ahead ≤ angles
 
 -- fields in the ranges of the tape
 pub record Ready (f : Fields) : Type 0 where
   pub some : 1 ≤ f .line .legs
-  pub few : f .line .legs ≤ 64
+  pub few : f .line .legs ≤ mostLegs
   pub mark : f .opening .mark < circle
   pub given : f .closing .given < circle
   pub angles : (k : ℕ) → k ≤ f .line .legs → angleAt f k < circle
-  pub elevation : (leZ (negℤ (pos 1000)) (f .site .elevation .v) && leZ (f .site .elevation .v) (pos 20000)) ≡ true
-  pub scale-low : 9990000 ≤ f .site .scale
-  pub scale-high : f .site .scale ≤ 10010000
-  pub far : (k : ℕ) → k < f .line .legs → 1000 ≤ distanceAt f k
-  pub near : (k : ℕ) → k < f .line .legs → distanceAt f k ≤ 20000000
-  pub from : (axis : Axis) → along axis (f .opening .from) ≤ 1000000000
-  pub to : (axis : Axis) → along axis (f .closing .to) ≤ 1000000000
+  pub elevation : (leZ (negℤ (pos lowest)) (f .site .elevation .v)
+      && leZ (f .site .elevation .v) (pos highest)) ≡ true
+  pub scale-low : leastFactor ≤ f .site .scale
+  pub scale-high : f .site .scale ≤ mostFactor
+  pub far : (k : ℕ) → k < f .line .legs → leastDistance ≤ distanceAt f k
+  pub near : (k : ℕ) → k < f .line .legs → distanceAt f k ≤ mostDistance
+  pub from : (axis : Axis) → along axis (f .opening .from) ≤ mostCoordinate
+  pub to : (axis : Axis) → along axis (f .closing .to) ≤ mostCoordinate
 
 -- a leg whose fields are in range, and its factor
 pub record LegSound (factor distance azimuth : ℕ) : Type 0 where
-  pub least : 9980000 ≤ factor
-  pub most : factor ≤ 10020010
-  pub far : 1000 ≤ distance
-  pub near : distance ≤ 20000000
+  pub least : leastCombined ≤ factor
+  pub most : factor ≤ mostCombined
+  pub far : leastDistance ≤ distance
+  pub near : distance ≤ mostDistance
   pub turned : azimuth < circle
 
 -- a balanced traverse whose fields are in range
 pub record Sound (b : Balanced) : Type 0 where
   pub some : 1 ≤ b .legs
-  pub few : b .legs ≤ 64
+  pub few : b .legs ≤ mostLegs
   pub leg : (k : ℕ) → k < b .legs → LegSound (b .factor) (getD (b .distances) k 0) (azimuthOf b k)
-  pub from : (axis : Axis) → along axis (b .from) ≤ 1000000000
-  pub to : (axis : Axis) → along axis (b .to) ≤ 1000000000
+  pub from : (axis : Axis) → along axis (b .from) ≤ mostCoordinate
+  pub to : (axis : Axis) → along axis (b .to) ≤ mostCoordinate
 
 -- what is summed before the first leg
 pub record Begun (from : Point) (s : Sums) : Type 0 where
@@ -134,7 +154,7 @@ pub record Begun (from : Point) (s : Sums) : Type 0 where
 
 -- a move of one leg
 abbrev pub Slight : ℤ → Type 0
-Slight z = natAbs z ≤ 2010000
+Slight z = natAbs z ≤ mostMove
 
 -- r is s, one leg on, whose distance and moves are these
 pub record Added (s : Sums) (long : ℕ) (n e : ℤ) (r : Sums) : Type 0 where
@@ -144,13 +164,15 @@ pub record Added (s : Sums) (long : ℕ) (n e : ℤ) (r : Sums) : Type 0 where
 
 -- r is s, one leg on, by the entries e of a table of sines
 abbrev pub Advanced : (ℕ → ℤ) → Sums → ℕ → ℕ → ℕ → Sums → Type 0
-Advanced e s factor distance azimuth r = let long = grid distance factor in Added s long (course e north long azimuth) (course e east long azimuth) r
+Advanced e s factor distance azimuth r =
+    let long = grid distance factor in
+    Added s long (course e north long azimuth) (course e east long azimuth) r
 
 -- sums that leave room for a leg more
 pub record Small (s : Sums) : Type 0 where
-  pub north : natAbs (s .north .v) < 2 ^ 40
-  pub east : natAbs (s .east .v) < 2 ^ 40
-  pub run : s .run < 2 ^ 40
+  pub north : natAbs (s .north .v) < sumBound
+  pub east : natAbs (s .east .v) < sumBound
+  pub run : s .run < sumBound
 
 -- s holds what is summed at station k: both preliminary places and the distance run
 pub record Stands (e : ℕ → ℤ) (b : Balanced) (k : ℕ) (s : Sums) : Type 0 where
@@ -162,9 +184,12 @@ pub record Stands (e : ℕ → ℤ) (b : Balanced) (k : ℕ) (s : Sums) : Type 0
 abbrev pub wordAt : List ℤ → ℕ → ℤ
 wordAt words i = getD words i (pos 0)
 
--- the lists hold what is summed at the stations up to n: northing, then easting, of each, and the distance run
+-- the lists hold what is summed at the stations up to n: northing, then easting, of each, and the
+-- distance run
 pub record Ran (e : ℕ → ℤ) (b : Balanced) (n : ℕ) (spots : List ℤ) (runs : List ℕ) : Type 0 where
-  pub spot : (axis : Axis) (k : ℕ) → k ≤ n → wordAt spots (at axis k) ≡ preliminary (line e axis b) k
+  pub spot : (axis : Axis) (k : ℕ)
+      → k ≤ n
+      → wordAt spots (at axis k) ≡ preliminary (line e axis b) k
   pub run : (k : ℕ) → k ≤ n → getD runs k 0 ≡ run (longOf b) k
 
 -- c is what is left at the end of the line: the sums there, less the fixed end
@@ -179,28 +204,30 @@ pub record Closed (e : ℕ → ℤ) (b : Balanced) (c : Sums) : Type 0 where
   pub east : c .east .v ≡ eastClosure e b
   pub run : c .run ≡ distanceRun b
 
--- the end of the run along a traverse in range, by the entries e: what is kept of every station, and the closures
-pub record Ended (e : ℕ → ℤ) (b : Balanced) (spots : List ℤ) (runs : List ℕ) (c : Sums) : Type 0 where
+-- the end of the run along a traverse in range, by the entries e: what is kept of every station,
+-- and the closures
+pub record Ended (e : ℕ → ℤ) (b : Balanced) (spots : List ℤ) (runs : List ℕ) (c : Sums)
+    : Type 0 where
   pub sound : Sound b
-  pub room : 130 ≤ length spots
-  pub room-run : 65 ≤ length runs
+  pub room : stationWords ≤ length spots
+  pub room-run : mostStations ≤ length runs
   pub ran : Ran e b (b .legs) spots runs
   pub closed : Closed e b c
 
 -- closures and distance run, within the limit and within the ranges of the share rule
 pub record Near (c : Sums) : Type 0 where
-  pub north : natAbs (c .north .v) ≤ 26000
-  pub east : natAbs (c .east .v) ≤ 26000
+  pub north : natAbs (c .north .v) ≤ mostClosure
+  pub east : natAbs (c .east .v) ≤ mostClosure
   pub far : 1 ≤ c .run
-  pub most : c .run ≤ 1300000000
+  pub most : c .run ≤ mostSum
 
 -- stations 0 to n whose shares of these closures can be taken
 pub record Shared (n : ℕ) (spots : List ℤ) (runs : List ℕ) (c : Sums) : Type 0 where
-  pub few : n ≤ 64
-  pub room : 130 ≤ length spots
-  pub room-run : 65 ≤ length runs
-  pub north : (k : ℕ) → k ≤ n → natAbs (wordAt spots (2 * k)) < 2 ^ 40
-  pub east : (k : ℕ) → k ≤ n → natAbs (wordAt spots (2 * k + 1)) < 2 ^ 40
+  pub few : n ≤ mostLegs
+  pub room : stationWords ≤ length spots
+  pub room-run : mostStations ≤ length runs
+  pub north : (k : ℕ) → k ≤ n → natAbs (wordAt spots (2 * k)) < sumBound
+  pub east : (k : ℕ) → k ≤ n → natAbs (wordAt spots (2 * k + 1)) < sumBound
   pub part : (k : ℕ) → k ≤ n → getD runs k 0 ≤ c .run
 
 -- the words with the first k stations put in, each less its share of the closures
@@ -208,12 +235,20 @@ unfoldable pub putTo : List ℤ → List ℕ → Sums → ℕ → List ℤ → L
 putTo spots runs c zero words = words
 putTo spots runs c (suc k) words =
     let r = getD runs k 0 in
-    set (set (putTo spots runs c k words) (2 * k) (wordAt spots (2 * k) -ℤ share (c .north .v) r (c .run))) (2 * k + 1) (wordAt spots (2 * k + 1) -ℤ share (c .east .v) r (c .run))
+    set
+    (set (putTo spots runs c k words) (2 * k)
+    (wordAt spots (2 * k) -ℤ share (c .north .v) r (c .run)))
+    (2 * k + 1)
+    (wordAt spots (2 * k + 1) -ℤ share (c .east .v) r (c .run))
 
 -- the first k stations of the words, northing, then easting, taken from the first
 unfoldable pub takenFrom : List ℤ → ℕ → List ℤ
 takenFrom words zero = []
-takenFrom words (suc k) = takenFrom words k ++ ((wordAt words (2 * k) -ℤ wordAt words 0) ∷ (wordAt words (2 * k + 1) -ℤ wordAt words 1) ∷ [])
+takenFrom words (suc k) =
+    takenFrom words k
+    ++ ((wordAt words (2 * k) -ℤ wordAt words 0)
+    ∷ (wordAt words (2 * k + 1) -ℤ wordAt words 1)
+    ∷ [])
 
 -- o is station k of the words, taken from the first
 pub record TakenAt (words : List ℤ) (k : ℕ) (o : Offsets) : Type 0 where
@@ -222,31 +257,33 @@ pub record TakenAt (words : List ℤ) (k : ℕ) (o : Offsets) : Type 0 where
 
 -- offsets within the ranges of the area step
 pub record Ranged (o : Offsets) : Type 0 where
-  pub north : natAbs (o .north .v) ≤ 130000000
-  pub east : natAbs (o .east .v) ≤ 130000000
+  pub north : natAbs (o .north .v) ≤ mostOffset
+  pub east : natAbs (o .east .v) ≤ mostOffset
 
 -- words of n stations within the ranges of the area step
 pub record Placed (n : ℕ) (words : List ℤ) : Type 0 where
   pub some : 1 ≤ n
-  pub few : n ≤ 64
-  pub room : 130 ≤ length words
-  pub north : (k : ℕ) → k < n → natAbs (wordAt words (2 * k)) < 2 ^ 40
-  pub east : (k : ℕ) → k < n → natAbs (wordAt words (2 * k + 1)) < 2 ^ 40
+  pub few : n ≤ mostLegs
+  pub room : stationWords ≤ length words
+  pub north : (k : ℕ) → k < n → natAbs (wordAt words (2 * k)) < sumBound
+  pub east : (k : ℕ) → k < n → natAbs (wordAt words (2 * k + 1)) < sumBound
   pub near : Area·small (takenFrom words n) ≡ true
 
 -- the figures of a traverse whose closures and words are these
 pub record Figured (b : Frame) (c : Sums) (words : List ℤ) (r : Figures) : Type 0 where
-  pub room : 130 ≤ length words
+  pub room : stationWords ≤ length words
   pub legs : r .legs ≡ b .legs
   pub w : r .w ≡ b .w
   pub north : r .north ≡ c .north
   pub east : r .east ≡ c .east
   pub precise : r .precision ≡ precision (c .north .v) (c .east .v) (c .run)
   pub looped : r .looped ≡ same (b .from) (b .to)
-  pub area : r .area .v ≡ cond (same (b .from) (b .to)) (doubled (takenFrom words (b .legs))) (pos 0)
+  pub area : r .area .v
+      ≡ cond (same (b .from) (b .to)) (doubled (takenFrom words (b .legs))) (pos 0)
 
--- an answer that can be shown in the lent bytes: no refusal has the number 0, an adjusted traverse has few legs, and its text has room
+-- an answer that can be shown in the lent bytes: no refusal has the number 0, an adjusted traverse
+-- has few legs, and its text has room
 pub record Shows (x : Answer) (words : List ℤ) (out : List ℕ) : Type 0 where
   pub some : (n p : ℕ) → x ≡ answer.Refused n p → n ≡ 0 → ⊥
-  pub few : told x .number ≡ 0 → told x .legs ≤ 64
+  pub few : told x .number ≡ 0 → told x .legs ≤ mostLegs
   pub room : told x .number ≡ 0 → length (textOf (told x) words) ≤ length out

@@ -1,10 +1,12 @@
--- Paper 01, "Closure and compass rule", for one coordinate by itself, northing or easting. It knows nothing of azimuths, sines or tapes. Legs are
--- numbered by the station that they leave, from 0, so station k is reached after k legs.
+-- Paper 01, "Closure and compass rule", for one coordinate by itself, northing or easting. It knows
+-- nothing of azimuths, sines or tapes. Legs are numbered by the station that they leave, from 0, so
+-- station k is reached after k legs.
 use Prim.Native.Nat.{ℕ, zero, suc, _+_}
 use lib.IntN.{ℤ, _+ℤ_, _-ℤ_}
 use Rattle.steps.specs.Share.{share}
 
--- the fixed first and last places, the number of legs, the latitude or departure of each, and its grid distance
+-- the fixed first and last places, the number of legs, the latitude or departure of each, and its
+-- grid distance
 pub record Line : Type 0 where
   pub from : ℤ
   pub to : ℤ

@@ -1,4 +1,5 @@
--- Paper 01, "The sheet, and one printed whole": the text of an accepted tape, line by line, and what the sheet step answers and leaves in the lent bytes.
+-- Paper 01, "The sheet, and one printed whole": the text of an accepted tape, line by line, and
+-- what the sheet step answers and leaves in the lent bytes.
 use Prim.Native.Nat.{ℕ, zero, suc, _+_}
 use mathlib.Core.Bool.{Bool, cond}
 use mathlib.Core.List.{List, [], _++_}
@@ -6,9 +7,10 @@ use mathlib.Core.Path.{_≡_}
 use lib.Dec.{ltb, eqb}
 use lib.ListN.{length, getD, drop, replicate}
 use lib.IntN.{ℤ, pos}
+use Rattle.answer.specs.Refusal.{noRoom}
 use Rattle.steps.specs.Course.{north, east}
 use Rattle.minutes.specs.Entry.{entry}
-use Rattle.desk.specs.Answer.{traversedBy, traversedWordsBy}
+use Rattle.desk.specs.Answer.{stationWords, traversedBy, traversedWordsBy}
 use Rattle.desk.specs.Answer.{Told as Traversed}
 use Rattle.desk.specs.Traverse.{at}
 use Rattle.text.specs.Text.{ascii, decimal, signed, plain}
@@ -18,14 +20,18 @@ use Rattle.desk.specs.declared.Page.the-variants.{Refused, Text}
 -- ---- "Every line ends with one line feed; nothing is padded."
 -- "First line: W in seconds, closures in feet, always signed (zero is +), precision number."
 unfoldable pub closures : ℤ → ℤ → ℤ → List ℕ
-closures w n e = (ascii "CLOSE W=" ++ signed 1 w) ++ (ascii " N=" ++ signed 2 n) ++ (ascii " E=" ++ signed 2 e)
+closures w n e =
+    (ascii "CLOSE W=" ++ signed 1 w)
+    ++ (ascii " N=" ++ signed 2 n)
+    ++ (ascii " E=" ++ signed 2 e)
 
 unfoldable pub closeLine : ℤ → ℤ → ℤ → ℕ → List ℕ
 closeLine w n e p = closures w n e ++ (ascii " P=" ++ decimal p ++ ascii "\n")
 
 -- "Then station, northing, easting, a minus sign only when negative"
 unfoldable pub stationLine : ℕ → ℤ → ℤ → List ℕ
-stationLine k n e = decimal k ++ ((ascii " " ++ plain 2 n) ++ (ascii " " ++ plain 2 e) ++ ascii "\n")
+stationLine k n e =
+    decimal k ++ ((ascii " " ++ plain 2 n) ++ (ascii " " ++ plain 2 e) ++ ascii "\n")
 
 -- the line of station k, whose coordinates are in the words, and the lines of the first k stations
 unfoldable pub lineOf : List ℤ → ℕ → List ℕ
@@ -41,34 +47,46 @@ areaLine area loop = cond loop (ascii "AREA2 " ++ plain 4 area ++ ascii "\n") []
 
 -- the sheet of an adjusted traverse, and of its stations' words
 unfoldable pub textOf : Traversed → List ℤ → List ℕ
-textOf t words = closeLine (t .w) (t .north) (t .east) (t .precision) ++ stationLines words (t .legs + 1) ++ areaLine (t .area) (t .loop)
+textOf t words =
+    closeLine (t .w) (t .north) (t .east) (t .precision)
+    ++ stationLines words (t .legs + 1)
+    ++ areaLine (t .area) (t .loop)
 
--- ---- what is shown of a traverse: its refusal, or its text "from the first lent byte", which "changes nothing behind it"
+-- ---- what is shown of a traverse: its refusal, or its text "from the first lent byte", which
+-- "changes nothing behind it"
 abbrev pub over : List ℕ → List ℕ → List ℕ
 over bytes out = bytes ++ drop (length bytes) out
 
 unfoldable pub shown : Traversed → List ℤ → Page
-shown t words = cond (eqb (t .number) 0) (Text (length (textOf t words))) (Refused (t .number) (t .place))
+shown t words =
+    cond (eqb (t .number) 0) (Text (length (textOf t words))) (Refused (t .number) (t .place))
 
 unfoldable pub shownBytes : Traversed → List ℤ → List ℕ → List ℕ
 shownBytes t words out = cond (eqb (t .number) 0) (over (textOf t words) out) out
 
--- ---- the sheet step: "Refusal 1 is tried first", for under 4,096 bytes; "its refusals are the tape's". The words are the step's own
+-- "under 4,096 bytes for the sheet" there is no room. src/lib.rt has the same name
+abbrev pub sheetBytes : ℕ
+sheetBytes = 4096
+
+-- ---- the sheet step: "Refusal 1 is tried first", "under 4,096 bytes for the sheet"; "its refusals
+-- are the tape's". The words are the step's own
 abbrev pub ownWords : List ℤ
-ownWords = replicate 130 (pos 0)
+ownWords = replicate stationWords (pos 0)
 
 -- by the entries e of a table of sines
 abbrev pub answered : (ℕ → ℤ) → List ℕ → Traversed
-answered e tape = traversedBy e tape 130
+answered e tape = traversedBy e tape stationWords
 
 abbrev pub stations : (ℕ → ℤ) → List ℕ → List ℤ
 stations e tape = traversedWordsBy e tape ownWords
 
 unfoldable pub paged : (ℕ → ℤ) → List ℕ → ℕ → Page
-paged e tape room = cond (ltb room 4096) (Refused 1 0) (shown (answered e tape) (stations e tape))
+paged e tape room =
+    cond (ltb room sheetBytes) (Refused noRoom 0) (shown (answered e tape) (stations e tape))
 
 unfoldable pub pagedBytes : (ℕ → ℤ) → List ℕ → List ℕ → List ℕ
-pagedBytes e tape out = cond (ltb (length out) 4096) out (shownBytes (answered e tape) (stations e tape) out)
+pagedBytes e tape out =
+    cond (ltb (length out) sheetBytes) out (shownBytes (answered e tape) (stations e tape) out)
 
 -- ---- what is told: number, place and the text's length
 pub record Told : Type 0 where
@@ -80,18 +98,27 @@ abbrev pub told : Page → Told
 told (Refused n p) = record { number = n; place = p; length = 0 }
 told (Text n) = record { number = 0; place = 0; length = n }
 
--- ---- what the sheet step owes: r is its answer, tells what the paper says, and out′ is what it leaves of out
+-- ---- what the sheet step owes: r is its answer, tells what the paper says, and out′ is what it
+-- leaves of out
 pub record Showed (e : ℕ → ℤ) (tape out out′ : List ℕ) (r : Page) : Type 0 where
   pub answer : r ≡ paged e tape (length out)
   pub tells : told r ≡ told (paged e tape (length out))
   pub left : out′ ≡ pagedBytes e tape out
 
--- ---- what the program prints: the sheet, or "one line, as `REFUSED 8`"; nothing in bytes that have no room for a sheet
+-- ---- what the program prints: the sheet, or "one line, as `REFUSED 8`"; nothing in bytes that
+-- have no room for a sheet
 unfoldable pub printedOf : Traversed → List ℤ → List ℕ
-printedOf t words = cond (eqb (t .number) 0) (textOf t words) (ascii "REFUSED " ++ decimal (t .number) ++ ascii "\n")
+printedOf t words =
+    cond (eqb (t .number) 0) (textOf t words)
+    (ascii "REFUSED " ++ decimal (t .number) ++ ascii "\n")
 
 unfoldable pub printed : List ℕ → List ℕ
 printed tape = printedOf (answered entry tape) (stations entry tape)
 
 abbrev pub printedIn : List ℕ → ℕ → List ℕ
-printedIn tape room = cond (ltb room 4096) [] (printed tape)
+printedIn tape room = cond (ltb room sheetBytes) [] (printed tape)
+
+-- the bytes of a tape that the program reads. They are enough: of any tape the same is printed as
+-- of its first 8,192 bytes (proofs/Enough.antt). The program SHEET has the same name
+abbrev pub tapeBytes : ℕ
+tapeBytes = 8192

@@ -1,4 +1,5 @@
--- Paper 01, "Azimuths and legs" and "Closure and compass rule", of a traverse whose angles are balanced: its two coordinates as lines.
+-- Paper 01, "Azimuths and legs" and "Closure and compass rule", of a traverse whose angles are
+-- balanced: its two coordinates as lines.
 use mathlib.Core.Bool.{Bool, cond, _&&_}
 use mathlib.Core.List.{List, [], _∷_, _++_}
 use Prim.Native.Nat.{ℕ, zero, suc, _+_, _*_}
@@ -34,14 +35,19 @@ line e axis b =
       long = longOf b;
     }
 
--- "northing, then easting, of stations 0 to n": where a coordinate of station k stands, and the lent words with the first k stations put in
+-- "northing, then easting, of stations 0 to n": where a coordinate of station k stands, and the
+-- lent words with the first k stations put in
 abbrev pub at : Axis → ℕ → ℕ
 at north k = 2 * k
 at east k = 2 * k + 1
 
 unfoldable pub placed : (ℕ → ℤ) → Balanced → ℕ → List ℤ → List ℤ
 placed e b zero words = words
-placed e b (suc k) words = set (set (placed e b k words) (at north k) (adjusted (line e north b) k)) (at east k) (adjusted (line e east b) k)
+placed e b (suc k) words =
+    set
+    (set (placed e b k words) (at north k) (adjusted (line e north b) k))
+    (at east k)
+    (adjusted (line e east b) k)
 
 -- "coordinates taken from station 0": northing, then easting, of the first k stations
 abbrev pub offset : (ℕ → ℤ) → Balanced → Axis → ℕ → ℤ
@@ -51,7 +57,8 @@ unfoldable pub offsetsTo : (ℕ → ℤ) → Balanced → ℕ → List ℤ
 offsetsTo e b zero = []
 offsetsTo e b (suc k) = offsetsTo e b k ++ (offset e b north k ∷ offset e b east k ∷ [])
 
--- "for tapes whose two fixed points have equal coordinates: the sum round stations 0 to n-1"; "Otherwise 0 and marked as no loop"
+-- "for tapes whose two fixed points have equal coordinates: the sum round stations 0 to n-1";
+-- "Otherwise 0 and marked as no loop"
 abbrev pub same : Point → Point → Bool
 same p q = eqb (p .north) (q .north) && eqb (p .east) (q .east)
 

@@ -6,6 +6,8 @@ use whole::Whole;
 ghost use mathlib.Core.Path.{_≡_};
 ghost use Prim.Native.Nat.{_+_, _≤_, _<_};
 ghost use lib.IntN.{natAbs};
+ghost use Rattle.answer.specs.Limit.{mostLegs};
+ghost use Rattle.minutes.specs.Quadrant.{circle, halfCircle};
 ghost use Rattle.steps.specs.Azimuth.{fromMark, onward, misclosure, closesAngles, balanced};
 ghost use Rattle.steps.specs.Share.{share};
 ghost use Rattle.tape.specs.Fields.{fieldsOf};
@@ -15,32 +17,35 @@ ghost use Rattle.desk.specs.Inside.{Known, Scaled, AllTurned, Shareable}
 ghost use Rattle.desk.specs.Inside.{balancedIn, frameOf};
 ghost use Rattle.desk.specs.Turns.{carried};
 
-// The azimuth of leg 1, and of each next leg.
+// The azimuth of leg 1.
 fn first(mark: u32, angle: u32) -> u32
-    requires { ⌜ (mark < 12960000) × (angle < 12960000) ⌝ }
+    requires { ⌜ (mark < circle) × (angle < circle) ⌝ }
     ensures is { λ r. ⌜ r ≡ fromMark mark angle ⌝ }
-    ensures turned { λ r. ⌜ r < 12960000 ⌝ }
+    ensures turned { λ r. ⌜ r < circle ⌝ }
 {
     steps::azimuth::from_mark(mark, angle).value() as u32
 }
 
+// The azimuth of each next leg.
 fn next(before: u32, angle: u32) -> u32
-    requires { ⌜ (before < 12960000) × (angle < 12960000) ⌝ }
+    requires { ⌜ (before < circle) × (angle < circle) ⌝ }
     ensures is { λ r. ⌜ r ≡ onward before angle ⌝ }
-    ensures turned { λ r. ⌜ r < 12960000 ⌝ }
+    ensures turned { λ r. ⌜ r < circle ⌝ }
 {
     steps::azimuth::onward(before, angle).value() as u32
 }
 
-// The azimuth carried to each leg, and its measured distance, into the lent lists; what comes back is the azimuth carried to the
-// closing mark. The legs are walked from the first to the close, whose angle is the closing one.
+// The azimuth carried to each leg, and its measured distance, into the lent lists; what comes back
+// is the azimuth carried to the closing mark. The legs are walked from the first to the close,
+// whose angle is the closing one.
 pub fn carry(tape: &[u8], c: Control, azimuths: &mut [u32], distances: &mut [u32]) -> u32
     requires { ⌜ Known (now tape) c ⌝ }
     requires { ⌜ (now azimuths ≡ zeros) × (now distances ≡ zeros) ⌝ }
     ensures closing { λ r. ⌜ r ≡ carried (turnsOf (fieldsOf (now (tape .entry)))) (c .legs) ⌝ }
     ensures azimuths { λ r. ⌜ now (azimuths .exit)
         ≡ filled (carried (turnsOf (fieldsOf (now (tape .entry))))) (c .legs) zeros ⌝ }
-    ensures distances { λ r. ⌜ now (distances .exit) ≡ filled (distanceAt (fieldsOf (now (tape .entry)))) (c .legs) zeros ⌝ }
+    ensures distances { λ r. ⌜ now (distances .exit)
+        ≡ filled (distanceAt (fieldsOf (now (tape .entry)))) (c .legs) zeros ⌝ }
 {
     let mut sight = tape::sight_at(tape, c.line);
     let mut azimuth = first(c.mark, sight.angle);
@@ -57,16 +62,16 @@ pub fn carry(tape: &[u8], c: Control, azimuths: &mut [u32], distances: &mut [u32
 
 // The misclosure W.
 pub fn misclosure_of(closing: u32, given: u32) -> Whole
-    requires { ⌜ (closing < 12960000) × (given < 12960000) ⌝ }
+    requires { ⌜ (closing < circle) × (given < circle) ⌝ }
     ensures is { λ r. ⌜ r .v ≡ misclosure closing given ⌝ }
-    ensures size { λ r. ⌜ natAbs (r .v) ≤ 6480000 ⌝ }
+    ensures size { λ r. ⌜ natAbs (r .v) ≤ halfCircle ⌝ }
 {
     steps::azimuth::misclosure(closing, given).value()
 }
 
 // Whether the misclosure is within its limit.
 pub fn angles_close(w: Whole, legs: usize) -> bool
-    requires { ⌜ (natAbs (w .v) ≤ 6480000) × (1 ≤ legs) × (legs ≤ 64) ⌝ }
+    requires { ⌜ (natAbs (w .v) ≤ halfCircle) × (1 ≤ legs) × (legs ≤ mostLegs) ⌝ }
     ensures { λ r. ⌜ r ≡ closesAngles (w .v) legs ⌝ }
 {
     steps::azimuth::closes_angles(w, legs as u64).value()
@@ -74,11 +79,11 @@ pub fn angles_close(w: Whole, legs: usize) -> bool
 
 // The balanced azimuth of a leg at the j-th of the angles that share W; its carried one is given.
 fn balanced_leg(azimuth: u32, w: Whole, j: usize, angles: usize) -> u32
-    requires { ⌜ azimuth < 12960000 ⌝ }
-    requires { ⌜ natAbs (w .v) ≤ 6480000 ⌝ }
-    requires { ⌜ (j ≤ angles) × (2 ≤ angles) × (angles ≤ 65) ⌝ }
+    requires { ⌜ azimuth < circle ⌝ }
+    requires { ⌜ natAbs (w .v) ≤ halfCircle ⌝ }
+    requires { ⌜ (j ≤ angles) × (2 ≤ angles) × (angles ≤ mostLegs + 1) ⌝ }
     ensures is { λ r. ⌜ r ≡ balanced azimuth (share (w .v) j angles) ⌝ }
-    ensures turned { λ r. ⌜ r < 12960000 ⌝ }
+    ensures turned { λ r. ⌜ r < circle ⌝ }
 {
     let part = steps::share::angle_share(w, j as u64, (angles - 1) as u64).value();
     steps::azimuth::balanced(azimuth, part).value() as u32
@@ -87,7 +92,7 @@ fn balanced_leg(azimuth: u32, w: Whole, j: usize, angles: usize) -> u32
 // The balanced azimuths of all legs, in the place of the carried ones. `ahead` angles stand before
 // leg 1, and `angles` share W.
 pub fn balance(w: Whole, legs: usize, ahead: usize, angles: usize, azimuths: &mut [u32])
-    requires { ⌜ natAbs (w .v) ≤ 6480000 ⌝ }
+    requires { ⌜ natAbs (w .v) ≤ halfCircle ⌝ }
     requires { ⌜ Shareable legs ahead angles ⌝ }
     requires { ⌜ AllTurned legs (now azimuths) ⌝ }
     ensures { λ r. ⌜ now (azimuths .exit)

@@ -4,12 +4,12 @@ use tape::Point;
 use whole::Whole;
 ghost use mathlib.Core.Path.{_≡_};
 ghost use mathlib.Core.Bool.{cond};
-ghost use Prim.Native.Nat.{_+_, _*_, _≤_, _<_, _^_};
+ghost use Prim.Native.Nat.{_+_, _*_, _≤_, _<_};
 ghost use lib.ListN.{length};
 ghost use lib.IntN.{pos, natAbs, _-ℤ_, _*ℤ_};
-ghost use Rattle.steps.specs.Area.{doubled};
+ghost use Rattle.steps.specs.Area.{mostOffset, doubled};
 ghost use Rattle.desk.specs.Traverse.{same};
-ghost use Rattle.desk.specs.Inside.{wordAt, takenFrom, TakenAt, Ranged, Placed};
+ghost use Rattle.desk.specs.Inside.{sumBound, wordAt, takenFrom, TakenAt, Ranged, Placed};
 
 // The offsets of a station: how far north and east of the first it stands.
 struct Offsets {
@@ -27,7 +27,8 @@ pub fn is_loop(from: Point, to: Point) -> bool
 // A word, taken from another.
 fn apart(words: &[i64], at: usize, first: usize) -> Whole
     requires { ⌜ (at < length (now words)) × (first < length (now words)) ⌝ }
-    requires { ⌜ (natAbs (wordAt (now words) at) < 2 ^ 40) × (natAbs (wordAt (now words) first) < 2 ^ 40) ⌝ }
+    requires { ⌜ (natAbs (wordAt (now words) at) < sumBound)
+        × (natAbs (wordAt (now words) first) < sumBound) ⌝ }
     ensures { λ r. ⌜ r .v ≡ wordAt (now (words .entry)) at -ℤ wordAt (now (words .entry)) first ⌝ }
 {
     places::word(words, at).minus(places::word(words, first))
@@ -36,8 +37,10 @@ fn apart(words: &[i64], at: usize, first: usize) -> Whole
 // Station k, taken from the first.
 fn offsets_at(words: &[i64], k: usize) -> Offsets
     requires { ⌜ 2 * k + 1 < length (now words) ⌝ }
-    requires { ⌜ (natAbs (wordAt (now words) (2 * k)) < 2 ^ 40) × (natAbs (wordAt (now words) 0) < 2 ^ 40) ⌝ }
-    requires { ⌜ (natAbs (wordAt (now words) (2 * k + 1)) < 2 ^ 40) × (natAbs (wordAt (now words) 1) < 2 ^ 40) ⌝ }
+    requires { ⌜ (natAbs (wordAt (now words) (2 * k)) < sumBound)
+        × (natAbs (wordAt (now words) 0) < sumBound) ⌝ }
+    requires { ⌜ (natAbs (wordAt (now words) (2 * k + 1)) < sumBound)
+        × (natAbs (wordAt (now words) 1) < sumBound) ⌝ }
     ensures { λ r. ⌜ TakenAt (now (words .entry)) k r ⌝ }
 {
     let north = apart(words, 2 * k, 0);
@@ -48,15 +51,17 @@ fn offsets_at(words: &[i64], k: usize) -> Offsets
 // Twice the area of the triangle that two stations make with the first.
 fn cross(here: Offsets, there: Offsets) -> Whole
     requires { ⌜ Ranged here × Ranged there ⌝ }
-    ensures is { λ r. ⌜ r .v ≡ here .north .v *ℤ there .east .v -ℤ there .north .v *ℤ here .east .v ⌝ }
-    ensures size { λ r. ⌜ natAbs (r .v) ≤ 33800000000000000 ⌝ }
+    ensures is { λ r. ⌜ r .v
+        ≡ here .north .v *ℤ there .east .v -ℤ there .north .v *ℤ here .east .v ⌝ }
+    ensures size { λ r. ⌜ natAbs (r .v) ≤ 2 * mostOffset * mostOffset ⌝ }
 {
     here.north
         .times(there.east)
         .minus(there.north.times(here.east))
 }
 
-// The sum round n stations. The first station makes no triangle with itself, so the sum ends at the last station but one.
+// The sum round n stations. The first station makes no triangle with itself, so the sum ends at the
+// last station but one.
 fn round(words: &[i64], n: usize) -> Whole
     requires { ⌜ Placed n (now words) ⌝ }
     ensures { λ r. ⌜ r .v ≡ doubled (takenFrom (now (words .entry)) n) ⌝ }

@@ -2,11 +2,14 @@
 use crate::Checked;
 use crate::Frame;
 use crate::angles;
+use answer::refusal::BAD_ANGLES;
 use tape::Control;
 use whole::Whole;
 ghost use mathlib.Core.Path.{_≡_};
 ghost use Prim.Native.Nat.{_+_, _≤_};
 ghost use lib.IntN.{natAbs};
+ghost use Rattle.answer.specs.Limit.{mostLegs};
+ghost use Rattle.minutes.specs.Quadrant.{halfCircle};
 ghost use Rattle.tape.specs.Fields.{fieldsOf};
 ghost use Rattle.desk.specs.Angles.{zeros};
 ghost use Rattle.desk.specs.Answer.{checkedAngles};
@@ -17,7 +20,7 @@ const AHEAD: usize = 1;
 
 // W shared out over all angles, the closing one among them: the azimuths in the list are balanced.
 fn share_out(c: Control, w: Whole, azimuths: &mut [u32]) -> Frame
-    requires { ⌜ (natAbs (w .v) ≤ 6480000) × (1 ≤ c .legs) × (c .legs ≤ 64) ⌝ }
+    requires { ⌜ (natAbs (w .v) ≤ halfCircle) × (1 ≤ c .legs) × (c .legs ≤ mostLegs) ⌝ }
     requires { ⌜ Scaled c ⌝ }
     requires { ⌜ AllTurned (c .legs) (now azimuths) ⌝ }
     ensures frame { λ r. ⌜ r ≡ frameOf c (c .legs + 1) w ⌝ }
@@ -29,11 +32,13 @@ fn share_out(c: Control, w: Whole, azimuths: &mut [u32]) -> Frame
     angles::frame(c, shared, w)
 }
 
-// The misclosure is tested before anything is balanced. The legs' azimuths and distances are left in the lent lists.
+// The misclosure is tested before anything is balanced. The legs' azimuths and distances are left
+// in the lent lists.
 pub fn check_angles(tape: &[u8], c: Control, azimuths: &mut [u32], distances: &mut [u32]) -> Checked
     requires { ⌜ Known (now tape) c ⌝ }
     requires { ⌜ (now azimuths ≡ zeros) × (now distances ≡ zeros) ⌝ }
-    ensures { λ r. ⌜ checkedAs r (now (azimuths .exit)) (now (distances .exit)) ≡ checkedAngles (fieldsOf (now (tape .entry))) ⌝ }
+    ensures { λ r. ⌜ checkedAs r (now (azimuths .exit)) (now (distances .exit))
+        ≡ checkedAngles (fieldsOf (now (tape .entry))) ⌝ }
 {
     let closing = angles::carry(tape, c, azimuths, distances);
     let w = angles::misclosure_of(closing, c.given);
@@ -41,7 +46,7 @@ pub fn check_angles(tape: &[u8], c: Control, azimuths: &mut [u32], distances: &m
         return Checked::Good(share_out(c, w, azimuths));
     }
     Checked::Refused {
-        number: 8,
+        number: BAD_ANGLES,
         place: c.place,
     }
 }

@@ -9,16 +9,19 @@ use whole::Whole;
 ghost use mathlib.Core.Path.{_≡_};
 ghost use Prim.Native.Nat.{_+_, _*_, _≤_, _<_};
 ghost use lib.ListN.{length, getD, set};
+ghost use Rattle.answer.specs.Limit.{mostLegs, leastDistance, mostDistance};
 ghost use Rattle.steps.specs.Course.{north, east, toldOf};
-ghost use Rattle.steps.specs.Distance.{grid};
-ghost use Rattle.desk.specs.Inside.{withLegs, LegSound, Sound, Small, Slight, Begun, Added, Advanced, Stands, Ran};
+ghost use Rattle.steps.specs.Distance.{leastCombined, mostCombined, grid};
+ghost use Rattle.desk.specs.Answer.{mostStations, stationWords};
+ghost use Rattle.desk.specs.Inside.{longestLeg, withLegs, LegSound, Sound, Small, Slight};
+ghost use Rattle.desk.specs.Inside.{Begun, Added, Advanced, Stands, Ran};
 ghost use Rattle.sines.specs.Sine.{entryIn};
 
 fn grid_distance(distance: u32, factor: u32) -> u64
-    requires { ⌜ (1000 ≤ distance) × (distance ≤ 20000000) ⌝ }
-    requires { ⌜ (9980000 ≤ factor) × (factor ≤ 10020010) ⌝ }
+    requires { ⌜ (leastDistance ≤ distance) × (distance ≤ mostDistance) ⌝ }
+    requires { ⌜ (leastCombined ≤ factor) × (factor ≤ mostCombined) ⌝ }
     ensures is { λ r. ⌜ r ≡ grid distance factor ⌝ }
-    ensures size { λ r. ⌜ r ≤ 20040020 ⌝ }
+    ensures size { λ r. ⌜ r ≤ longestLeg ⌝ }
 {
     steps::distance::grid(distance as u64, factor as u64).value()
 }
@@ -27,7 +30,7 @@ fn grid_distance(distance: u32, factor: u32) -> u64
 fn added(s: Sums, long: u64, moves: Moves) -> Sums
     requires { ⌜ Small s ⌝ }
     requires { ⌜ Slight (toldOf north moves .value) × Slight (toldOf east moves .value) ⌝ }
-    requires { ⌜ long ≤ 20040020 ⌝ }
+    requires { ⌜ long ≤ longestLeg ⌝ }
     ensures { λ r. ⌜ Added s long (toldOf north moves .value) (toldOf east moves .value) r ⌝ }
 {
     let north = s.north.plus(moves.north());
@@ -51,7 +54,8 @@ fn advance(
     requires { ⌜ (k < length (now azimuths)) × (k < length (now distances)) ⌝ }
     requires { ⌜ LegSound factor (getD (now distances) k 0) (getD (now azimuths) k 0) ⌝ }
     requires { ⌜ Small s ⌝ }
-    ensures { λ r. ⌜ Advanced (entryIn (now (table .entry))) s factor (getD (now (distances .entry)) k 0) (getD (now (azimuths .entry)) k 0) r ⌝ }
+    ensures { λ r. ⌜ Advanced (entryIn (now (table .entry))) s factor
+        (getD (now (distances .entry)) k 0) (getD (now (azimuths .entry)) k 0) r ⌝ }
 {
     let long = grid_distance(distances[k], factor);
     added(s, long, course::moves_in(table, long, azimuths[k]))
@@ -71,7 +75,8 @@ fn start(from: Point) -> Sums
 // What is summed at station k, kept: northing, then easting, and the distance run.
 fn keep(spots: &mut [i64], runs: &mut [u64], k: usize, s: Sums)
     requires { ⌜ (2 * k + 1 < length (now spots)) × (k < length (now runs)) ⌝ }
-    ensures spots { λ r. ⌜ now (spots .exit) ≡ set (set (now (spots .entry)) (2 * k) (s .north .v)) (2 * k + 1) (s .east .v) ⌝ }
+    ensures spots { λ r. ⌜ now (spots .exit)
+        ≡ set (set (now (spots .entry)) (2 * k) (s .north .v)) (2 * k + 1) (s .east .v) ⌝ }
     ensures runs { λ r. ⌜ now (runs .exit) ≡ set (now (runs .entry)) k (s .run) ⌝ }
 {
     places::put(spots, 2 * k, s.north);
@@ -79,8 +84,9 @@ fn keep(spots: &mut [i64], runs: &mut [u64], k: usize, s: Sums)
     runs[k] = s.run;
 }
 
-// The run along all legs: what is summed at every station is kept in the lent lists, and what is summed at the last one comes back. Lists are lent, since a
-// list of structures would be copied whole wherever it is handed on.
+// The run along all legs: what is summed at every station is kept in the lent lists, and what is
+// summed at the last one comes back. Lists are lent, since a list of structures would be copied
+// whole wherever it is handed on.
 pub fn run_all(
     table: &[u32],
     b: Frame,
@@ -90,10 +96,14 @@ pub fn run_all(
     runs: &mut [u64],
 ) -> Sums
     requires { ⌜ Sound (withLegs b (now azimuths) (now distances)) ⌝ }
-    requires { ⌜ (64 ≤ length (now azimuths)) × (64 ≤ length (now distances)) ⌝ }
-    requires { ⌜ (130 ≤ length (now spots)) × (65 ≤ length (now runs)) ⌝ }
-    ensures kept { λ r. ⌜ Ran (entryIn (now (table .entry))) (withLegs b (now (azimuths .entry)) (now (distances .entry))) (b .legs) (now (spots .exit)) (now (runs .exit)) ⌝ }
-    ensures end { λ r. ⌜ Stands (entryIn (now (table .entry))) (withLegs b (now (azimuths .entry)) (now (distances .entry))) (b .legs) r ⌝ }
+    requires { ⌜ (mostLegs ≤ length (now azimuths)) × (mostLegs ≤ length (now distances)) ⌝ }
+    requires { ⌜ (stationWords ≤ length (now spots)) × (mostStations ≤ length (now runs)) ⌝ }
+    ensures kept { λ r. ⌜ Ran (entryIn (now (table .entry)))
+        (withLegs b (now (azimuths .entry)) (now (distances .entry)))
+        (b .legs) (now (spots .exit)) (now (runs .exit)) ⌝ }
+    ensures end { λ r. ⌜ Stands (entryIn (now (table .entry)))
+        (withLegs b (now (azimuths .entry)) (now (distances .entry)))
+        (b .legs) r ⌝ }
 {
     let mut s = start(b.from);
     keep(spots, runs, 0, s);

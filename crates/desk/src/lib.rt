@@ -1,4 +1,7 @@
-// The desk: a tape in, an adjusted traverse or its sheet out, in two steps. The first checks and balances the angles, the second closes and adjusts.
+// The desk: a tape in, an adjusted traverse or its sheet out, in two steps. The first checks and
+// balances the angles, the second closes and adjusts.
+use answer::limit::MOST_LEGS;
+use answer::refusal::NO_ROOM;
 use tape::Control;
 use tape::Point;
 use tape::Taken;
@@ -7,11 +10,23 @@ ghost use mathlib.Core.Path.{_≡_};
 ghost use Prim.Native.Nat.{_≤_};
 ghost use lib.ListN.{length};
 ghost use Rattle.tape.specs.Fields.{fieldsOf};
-ghost use Rattle.desk.specs.Answer.{told, checkedAngles, afterFirst, wordsAfterFirst, traversed, traversedWords, traversedBy, traversedWordsBy};
+ghost use Rattle.desk.specs.Answer.{stationWords, told, checkedAngles};
+ghost use Rattle.desk.specs.Answer.{afterFirst, traversed, traversedBy};
+ghost use Rattle.desk.specs.Answer.{wordsAfterFirst, traversedWords, traversedWordsBy};
 ghost use Rattle.desk.specs.Inside.{Known, Shows};
-ghost use Rattle.desk.specs.Sheet.{shown, shownBytes, over, Showed, printedIn};
+ghost use Rattle.desk.specs.Sheet.{sheetBytes, shown, shownBytes, over, Showed, printedIn};
 ghost use Rattle.minutes.specs.Entry.{entry};
 ghost use Rattle.sines.specs.Sine.{entryIn};
+
+// "stations 0 to n": one more than there are legs. specs/Answer.antt has the same name.
+pub const MOST_STATIONS: usize = MOST_LEGS + 1;
+
+// "under 130 words for coordinates" there is no room: a northing and an easting for each of
+// stations 0 to 64. specs/Answer.antt has the same name.
+pub const STATION_WORDS: usize = 2 * MOST_STATIONS;
+
+// "under 4,096 bytes for the sheet" there is no room. specs/Sheet.antt has the same name.
+pub const SHEET_BYTES: usize = 4_096;
 
 // A traverse whose angles are balanced, but for its legs: how many angles share W, which the second
 // step takes from here, the misclosure W, the combined factor, the two fixed points, and the place
@@ -41,7 +56,8 @@ pub struct Sums {
     pub run: u64,
 }
 
-// The figures of an adjusted traverse: n, W, both closures, the precision number, the doubled area and whether it is a loop.
+// The figures of an adjusted traverse: n, W, both closures, the precision number, the doubled area
+// and whether it is a loop.
 pub struct Figures {
     pub legs: usize,
     pub w: Whole,
@@ -76,12 +92,17 @@ mod second;
 // A tape that reads: its angles are checked and balanced, then it is closed and adjusted.
 fn work(table: &[u32], tape: &[u8], c: Control, words: &mut [i64]) -> Answer
     requires { ⌜ Known (now tape) c ⌝ }
-    requires { ⌜ 130 ≤ length (now words) ⌝ }
-    ensures answer { λ r. ⌜ told r ≡ afterFirst (entryIn (now (table .entry))) (checkedAngles (fieldsOf (now (tape .entry)))) ⌝ }
-    ensures words { λ r. ⌜ now (words .exit) ≡ wordsAfterFirst (entryIn (now (table .entry))) (checkedAngles (fieldsOf (now (tape .entry)))) (now (words .entry)) ⌝ }
+    requires { ⌜ stationWords ≤ length (now words) ⌝ }
+    ensures answer { λ r. ⌜ told r
+        ≡ afterFirst (entryIn (now (table .entry)))
+        (checkedAngles (fieldsOf (now (tape .entry)))) ⌝ }
+    ensures words { λ r. ⌜ now (words .exit)
+        ≡ wordsAfterFirst (entryIn (now (table .entry)))
+        (checkedAngles (fieldsOf (now (tape .entry))))
+        (now (words .entry)) ⌝ }
 {
-    let mut azimuths = [0u32; 64];
-    let mut distances = [0u32; 64];
+    let mut azimuths = [0u32; MOST_LEGS];
+    let mut distances = [0u32; MOST_LEGS];
     let checked = checking::check_angles(tape, c, &mut azimuths, &mut distances);
     match checked {
         Checked::Refused { number, place } => Answer::Refused { number, place },
@@ -89,15 +110,20 @@ fn work(table: &[u32], tape: &[u8], c: Control, words: &mut [i64]) -> Answer
     }
 }
 
-// The whole by the sines of a lent table, whatever it holds: a tape in, an adjusted traverse out. A list too short for a table lends nothing.
-// No word is written on a refusal. A caller who works many tapes takes the desk's table once and lends it.
+// The whole by the sines of a lent table, whatever it holds: a tape in, an adjusted traverse out. A
+// list too short for a table lends nothing. No word is written on a refusal. A caller that works
+// many tapes takes the desk's table once and lends it.
 pub fn traverse_in(table: &[u32], tape: &[u8], words: &mut [i64]) -> Answer
-    ensures answer { λ r. ⌜ told r ≡ traversedBy (entryIn (now (table .entry))) (now (tape .entry)) (length (now (words .entry))) ⌝ }
-    ensures words { λ r. ⌜ now (words .exit) ≡ traversedWordsBy (entryIn (now (table .entry))) (now (tape .entry)) (now (words .entry)) ⌝ }
+    ensures answer { λ r. ⌜ told r
+        ≡ traversedBy (entryIn (now (table .entry))) (now (tape .entry))
+        (length (now (words .entry))) ⌝ }
+    ensures words { λ r. ⌜ now (words .exit)
+        ≡ traversedWordsBy (entryIn (now (table .entry))) (now (tape .entry))
+        (now (words .entry)) ⌝ }
 {
-    if words.len() < 130 {
+    if words.len() < STATION_WORDS {
         return Answer::Refused {
-            number: 1,
+            number: NO_ROOM,
             place: 0,
         };
     }
@@ -111,17 +137,19 @@ pub fn traverse_in(table: &[u32], tape: &[u8], words: &mut [i64]) -> Answer
 // The paper's traverse: no table is lent, so every entry is the desk's own.
 pub fn traverse(tape: &[u8], words: &mut [i64]) -> Answer
     ensures answer { λ r. ⌜ told r ≡ traversed (now (tape .entry)) (length (now (words .entry))) ⌝ }
-    ensures words { λ r. ⌜ now (words .exit) ≡ traversedWords (now (tape .entry)) (now (words .entry)) ⌝ }
+    ensures words { λ r. ⌜ now (words .exit)
+        ≡ traversedWords (now (tape .entry)) (now (words .entry)) ⌝ }
 {
     let none = [0u32; 0];
     traverse_in(&none, tape, words)
 }
 
 // An answer of the traverse, shown: its refusal, or its text in the lent bytes.
-fn show(answer: Answer, words: &[i64; 130], out: &mut [u8]) -> Page
+fn show(answer: Answer, words: &[i64; STATION_WORDS], out: &mut [u8]) -> Page
     requires { ⌜ Shows answer (now words) (now out) ⌝ }
     ensures page { λ r. ⌜ r ≡ shown (told answer) (now (words .entry)) ⌝ }
-    ensures bytes { λ r. ⌜ now (out .exit) ≡ shownBytes (told answer) (now (words .entry)) (now (out .entry)) ⌝ }
+    ensures bytes { λ r. ⌜ now (out .exit)
+        ≡ shownBytes (told answer) (now (words .entry)) (now (out .entry)) ⌝ }
 {
     match answer {
         Answer::Refused { number, place } => Page::Refused { number, place },
@@ -129,25 +157,28 @@ fn show(answer: Answer, words: &[i64; 130], out: &mut [u8]) -> Page
     }
 }
 
-// The sheet of a tape that reads. Its words are its own, and are laid out only here, so that a tape that does not read pays for none.
+// The sheet of a tape that reads. Its words are its own, and are laid out only here, so that a tape
+// that does not read pays for none.
 fn compose(table: &[u32], tape: &[u8], c: Control, out: &mut [u8]) -> Page
     requires { ⌜ Known (now tape) c ⌝ }
-    requires { ⌜ 4096 ≤ length (now out) ⌝ }
-    ensures { λ r. ⌜ Showed (entryIn (now (table .entry))) (now (tape .entry)) (now (out .entry)) (now (out .exit)) r ⌝ }
+    requires { ⌜ sheetBytes ≤ length (now out) ⌝ }
+    ensures { λ r. ⌜ Showed (entryIn (now (table .entry))) (now (tape .entry))
+        (now (out .entry)) (now (out .exit)) r ⌝ }
 {
-    let mut words = [0i64; 130];
+    let mut words = [0i64; STATION_WORDS];
     let answer = work(table, tape, c, &mut words);
     show(answer, &words, out)
 }
 
-// The sheet step by the sines of a lent table, whatever it holds: the text of an accepted tape, from the first lent byte. Refusal 1 is tried before all,
-// and no byte is written on a refusal.
+// The sheet step by the sines of a lent table, whatever it holds: the text of an accepted tape,
+// from the first lent byte. Refusal 1 is tested before all, and no byte is written on a refusal.
 pub fn sheet_in(table: &[u32], tape: &[u8], out: &mut [u8]) -> Page
-    ensures { λ r. ⌜ Showed (entryIn (now (table .entry))) (now (tape .entry)) (now (out .entry)) (now (out .exit)) r ⌝ }
+    ensures { λ r. ⌜ Showed (entryIn (now (table .entry))) (now (tape .entry))
+        (now (out .entry)) (now (out .exit)) r ⌝ }
 {
-    if out.len() < 4096 {
+    if out.len() < SHEET_BYTES {
         return Page::Refused {
-            number: 1,
+            number: NO_ROOM,
             place: 0,
         };
     }
@@ -158,15 +189,16 @@ pub fn sheet_in(table: &[u32], tape: &[u8], out: &mut [u8]) -> Page
     }
 }
 
-// The paper's sheet: no table is lent, so every entry is the desk's own. It does not go by `sheet_in`: with two callers `compose` is compiled for itself, and
-// both ways of a refused tape are short (docs/SPEED.md).
+// The paper's sheet: no table is lent, so every entry is the desk's own. It does not go by
+// `sheet_in`: with two callers `compose` is compiled for itself, and both ways of a refused tape
+// are short (docs/SPEED.md).
 pub fn sheet(tape: &[u8], out: &mut [u8]) -> Page
     ensures { λ r. ⌜ Showed entry (now (tape .entry)) (now (out .entry)) (now (out .exit)) r ⌝ }
 {
     let none = [0u32; 0];
-    if out.len() < 4096 {
+    if out.len() < SHEET_BYTES {
         return Page::Refused {
-            number: 1,
+            number: NO_ROOM,
             place: 0,
         };
     }
@@ -177,12 +209,15 @@ pub fn sheet(tape: &[u8], out: &mut [u8]) -> Page
     }
 }
 
-// What the program prints: the sheet, or the line of a refusal; nothing in bytes that have no room for a sheet.
+// What the program prints: the sheet, or the line of a refusal; nothing in bytes that have no room
+// for a sheet.
 pub fn print(tape: &[u8], out: &mut [u8]) -> usize
-    ensures length { λ r. ⌜ r ≡ length (printedIn (now (tape .entry)) (length (now (out .entry)))) ⌝ }
-    ensures bytes { λ r. ⌜ now (out .exit) ≡ over (printedIn (now (tape .entry)) (length (now (out .entry)))) (now (out .entry)) ⌝ }
+    ensures length { λ r. ⌜ r
+        ≡ length (printedIn (now (tape .entry)) (length (now (out .entry)))) ⌝ }
+    ensures bytes { λ r. ⌜ now (out .exit)
+        ≡ over (printedIn (now (tape .entry)) (length (now (out .entry)))) (now (out .entry)) ⌝ }
 {
-    if out.len() < 4096 {
+    if out.len() < SHEET_BYTES {
         return 0;
     }
     match sheet(tape, out) {

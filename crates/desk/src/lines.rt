@@ -1,18 +1,21 @@
-// The lines of the sheet, each put behind the one before.
+// The lines of the sheet, each put after the one before.
 use crate::Figures;
+use crate::STATION_WORDS;
 use whole::Whole;
 ghost use mathlib.Core.Path.{_≡_};
 ghost use mathlib.Core.List.{_++_};
 ghost use Prim.Native.Nat.{_+_, _^_, _≤_};
 ghost use lib.ListN.{getD};
 ghost use lib.IntN.{pos};
+ghost use Rattle.answer.specs.Limit.{mostLegs};
 ghost use Rattle.text.specs.Text.{ascii, decimal, plain, amount};
 ghost use Rattle.text.specs.Room.{Room, Put};
-ghost use Rattle.desk.specs.Sheet.{closures, closeLine, lineOf, stationLines, areaLine, textOf};
-ghost use Rattle.desk.specs.Answer.{told};
+ghost use Rattle.desk.specs.Sheet.{closures, closeLine, lineOf, stationLines};
+ghost use Rattle.desk.specs.Sheet.{areaLine, textOf};
+ghost use Rattle.desk.specs.Answer.{mostStations, stationWords, told};
 ghost use Rattle.desk.specs.declared.Answer.the-variants.{Adjusted};
 
-// A name, and an amount behind it.
+// A name, and an amount after it.
 fn put_named(
     out: &mut [u8],
     at: usize,
@@ -24,7 +27,9 @@ fn put_named(
 ) -> usize
     requires { ⌜ unit ≡ 10 ^ d ⌝ }
     requires { ⌜ Room (now out) at (now name ++ amount (now plus) d (z .v)) ⌝ }
-    ensures { λ r. ⌜ Put (now (out .entry)) at (now (name .entry) ++ amount (now (plus .entry)) d (z .v)) (now (out .exit)) r ⌝ }
+    ensures { λ r. ⌜ Put (now (out .entry)) at
+        (now (name .entry) ++ amount (now (plus .entry)) d (z .v))
+        (now (out .exit)) r ⌝ }
 {
     let i = text::put(out, at, name);
     text::put_amount(out, i, plus, z, d, unit)
@@ -32,7 +37,8 @@ fn put_named(
 
 fn put_closures(out: &mut [u8], w: Whole, north: Whole, east: Whole) -> usize
     requires { ⌜ Room (now out) 0 (closures (w .v) (north .v) (east .v)) ⌝ }
-    ensures { λ r. ⌜ Put (now (out .entry)) 0 (closures (w .v) (north .v) (east .v)) (now (out .exit)) r ⌝ }
+    ensures { λ r. ⌜ Put (now (out .entry)) 0 (closures (w .v) (north .v) (east .v))
+        (now (out .exit)) r ⌝ }
 {
     let i = put_named(out, 0, b"CLOSE W=", b"+", w, 1, 10);
     let j = put_named(out, i, b" N=", b"+", north, 2, 100);
@@ -42,7 +48,8 @@ fn put_closures(out: &mut [u8], w: Whole, north: Whole, east: Whole) -> usize
 // A count between a word and the line feed.
 pub fn put_count(out: &mut [u8], at: usize, name: &[u8], n: u64) -> usize
     requires { ⌜ Room (now out) at (now name ++ decimal n ++ ascii "\n") ⌝ }
-    ensures { λ r. ⌜ Put (now (out .entry)) at (now (name .entry) ++ decimal n ++ ascii "\n") (now (out .exit)) r ⌝ }
+    ensures { λ r. ⌜ Put (now (out .entry)) at (now (name .entry) ++ decimal n ++ ascii "\n")
+        (now (out .exit)) r ⌝ }
 {
     let i = text::put(out, at, name);
     let j = text::put_decimal(out, i, n);
@@ -52,43 +59,49 @@ pub fn put_count(out: &mut [u8], at: usize, name: &[u8], n: u64) -> usize
 // The first line: the misclosure, both closures and the precision number.
 fn put_first(out: &mut [u8], w: Whole, north: Whole, east: Whole, precision: u64) -> usize
     requires { ⌜ Room (now out) 0 (closeLine (w .v) (north .v) (east .v) precision) ⌝ }
-    ensures { λ r. ⌜ Put (now (out .entry)) 0 (closeLine (w .v) (north .v) (east .v) precision) (now (out .exit)) r ⌝ }
+    ensures { λ r. ⌜ Put (now (out .entry)) 0 (closeLine (w .v) (north .v) (east .v) precision)
+        (now (out .exit)) r ⌝ }
 {
     let i = put_closures(out, w, north, east);
     put_count(out, i, b" P=", precision)
 }
 
 fn put_place(out: &mut [u8], at: usize, north: Whole, east: Whole) -> usize
-    requires { ⌜ Room (now out) at ((ascii " " ++ plain 2 (north .v)) ++ (ascii " " ++ plain 2 (east .v)) ++ ascii "\n") ⌝ }
-    ensures { λ r. ⌜ Put (now (out .entry)) at ((ascii " " ++ plain 2 (north .v)) ++ (ascii " " ++ plain 2 (east .v)) ++ ascii "\n") (now (out .exit)) r ⌝ }
+    requires { ⌜ Room (now out) at
+        ((ascii " " ++ plain 2 (north .v)) ++ (ascii " " ++ plain 2 (east .v)) ++ ascii "\n") ⌝ }
+    ensures { λ r. ⌜ Put (now (out .entry)) at
+        ((ascii " " ++ plain 2 (north .v)) ++ (ascii " " ++ plain 2 (east .v)) ++ ascii "\n")
+        (now (out .exit)) r ⌝ }
 {
     let i = put_named(out, at, b" ", b"", north, 2, 100);
     let j = put_named(out, i, b" ", b"", east, 2, 100);
     text::put(out, j, b"\n")
 }
 
-fn word(words: &[i64; 130], at: usize) -> Whole
-    requires { ⌜ at + 1 ≤ 130 ⌝ }
+fn word(words: &[i64; STATION_WORDS], at: usize) -> Whole
+    requires { ⌜ at + 1 ≤ stationWords ⌝ }
     ensures { λ r. ⌜ r .v ≡ getD (now (words .entry)) at (pos 0) ⌝ }
 {
     Whole { v: words[at] }
 }
 
 // The line of station k.
-fn put_station(out: &mut [u8], at: usize, words: &[i64; 130], k: usize) -> usize
-    requires { ⌜ k ≤ 64 ⌝ }
+fn put_station(out: &mut [u8], at: usize, words: &[i64; STATION_WORDS], k: usize) -> usize
+    requires { ⌜ k ≤ mostLegs ⌝ }
     requires { ⌜ Room (now out) at (lineOf (now words) k) ⌝ }
-    ensures { λ r. ⌜ Put (now (out .entry)) at (lineOf (now (words .entry)) k) (now (out .exit)) r ⌝ }
+    ensures { λ r. ⌜ Put (now (out .entry)) at (lineOf (now (words .entry)) k)
+        (now (out .exit)) r ⌝ }
 {
     let i = text::put_decimal(out, at, k as u64);
     put_place(out, i, word(words, 2 * k), word(words, 2 * k + 1))
 }
 
 // The lines of the stations below n.
-fn put_stations(out: &mut [u8], at: usize, words: &[i64; 130], n: usize) -> usize
-    requires { ⌜ n ≤ 65 ⌝ }
+fn put_stations(out: &mut [u8], at: usize, words: &[i64; STATION_WORDS], n: usize) -> usize
+    requires { ⌜ n ≤ mostStations ⌝ }
     requires { ⌜ Room (now out) at (stationLines (now words) n) ⌝ }
-    ensures { λ r. ⌜ Put (now (out .entry)) at (stationLines (now (words .entry)) n) (now (out .exit)) r ⌝ }
+    ensures { λ r. ⌜ Put (now (out .entry)) at (stationLines (now (words .entry)) n)
+        (now (out .exit)) r ⌝ }
 {
     let mut i = at;
     let mut k: usize = 0;
@@ -112,10 +125,11 @@ fn put_area(out: &mut [u8], at: usize, area: Whole, looped: bool) -> usize
 }
 
 // The whole sheet, from the first lent byte.
-pub fn put_all(out: &mut [u8], f: Figures, words: &[i64; 130]) -> usize
-    requires { ⌜ f .legs ≤ 64 ⌝ }
+pub fn put_all(out: &mut [u8], f: Figures, words: &[i64; STATION_WORDS]) -> usize
+    requires { ⌜ f .legs ≤ mostLegs ⌝ }
     requires { ⌜ Room (now out) 0 (textOf (told (Adjusted f)) (now words)) ⌝ }
-    ensures { λ r. ⌜ Put (now (out .entry)) 0 (textOf (told (Adjusted f)) (now (words .entry))) (now (out .exit)) r ⌝ }
+    ensures { λ r. ⌜ Put (now (out .entry)) 0 (textOf (told (Adjusted f)) (now (words .entry)))
+        (now (out .exit)) r ⌝ }
 {
     let i = put_first(out, f.w, f.north, f.east, f.precision);
     let j = put_stations(out, i, words, f.legs + 1);

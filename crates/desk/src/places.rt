@@ -3,12 +3,13 @@ use crate::Sums;
 use tape::Point;
 use whole::Whole;
 ghost use mathlib.Core.Path.{_≡_};
-ghost use Prim.Native.Nat.{_+_, _*_, _≤_, _<_, _^_};
+ghost use Prim.Native.Nat.{_+_, _*_, _≤_, _<_};
 ghost use lib.ListN.{length, set};
 ghost use lib.IntN.{natAbs, _-ℤ_};
-ghost use Rattle.steps.specs.Closure.{closes, precision};
+ghost use Rattle.steps.specs.Closure.{mostTested, mostClosure, mostSum, closes, precision};
 ghost use Rattle.steps.specs.Share.{share};
-ghost use Rattle.desk.specs.Inside.{Small, Left, Near, Shared, putTo, wordAt};
+ghost use Rattle.desk.specs.Answer.{stationWords};
+ghost use Rattle.desk.specs.Inside.{sumBound, Small, Left, Near, Shared, putTo, wordAt};
 
 // What is left at the end of the line.
 pub fn closing(to: Point, end: Sums) -> Sums
@@ -26,8 +27,8 @@ pub fn closing(to: Point, end: Sums) -> Sums
 
 // Whether the closures are within the limit.
 pub fn within_limit(c: Sums) -> bool
-    requires { ⌜ (natAbs (c .north .v) ≤ 1200000000) × (natAbs (c .east .v) ≤ 1200000000) ⌝ }
-    requires { ⌜ (1 ≤ c .run) × (c .run ≤ 1300000000) ⌝ }
+    requires { ⌜ (natAbs (c .north .v) ≤ mostTested) × (natAbs (c .east .v) ≤ mostTested) ⌝ }
+    requires { ⌜ (1 ≤ c .run) × (c .run ≤ mostSum) ⌝ }
     ensures { λ r. ⌜ r ≡ closes (c .north .v) (c .east .v) (c .run) ⌝ }
 {
     steps::closure::closes(c.north, c.east, c.run).value()
@@ -43,9 +44,9 @@ pub fn precision_of(c: Sums) -> u64
 
 // A preliminary coordinate less its share of the closure.
 fn adjust(place: Whole, closure: Whole, part: u64, all: u64) -> Whole
-    requires { ⌜ natAbs (place .v) < 2 ^ 40 ⌝ }
-    requires { ⌜ natAbs (closure .v) ≤ 26000 ⌝ }
-    requires { ⌜ (part ≤ all) × (1 ≤ all) × (all ≤ 1300000000) ⌝ }
+    requires { ⌜ natAbs (place .v) < sumBound ⌝ }
+    requires { ⌜ natAbs (closure .v) ≤ mostClosure ⌝ }
+    requires { ⌜ (part ≤ all) × (1 ≤ all) × (all ≤ mostSum) ⌝ }
     ensures { λ r. ⌜ r .v ≡ place .v -ℤ share (closure .v) part all ⌝ }
 {
     place.minus(steps::share::share(closure, part, all).value())
@@ -69,10 +70,13 @@ pub fn word(words: &[i64], at: usize) -> Whole
 // Station k, whose sums are given: northing, then easting, each less its share.
 fn put_station(words: &mut [i64], k: usize, north: Whole, east: Whole, run: u64, c: Sums)
     requires { ⌜ 2 * k + 1 < length (now words) ⌝ }
-    requires { ⌜ (natAbs (north .v) < 2 ^ 40) × (natAbs (east .v) < 2 ^ 40) ⌝ }
+    requires { ⌜ (natAbs (north .v) < sumBound) × (natAbs (east .v) < sumBound) ⌝ }
     requires { ⌜ Near c ⌝ }
     requires { ⌜ run ≤ c .run ⌝ }
-    ensures { λ r. ⌜ now (words .exit) ≡ set (set (now (words .entry)) (2 * k) (north .v -ℤ share (c .north .v) run (c .run))) (2 * k + 1) (east .v -ℤ share (c .east .v) run (c .run)) ⌝ }
+    ensures { λ r. ⌜ now (words .exit)
+        ≡ set
+        (set (now (words .entry)) (2 * k) (north .v -ℤ share (c .north .v) run (c .run)))
+        (2 * k + 1) (east .v -ℤ share (c .east .v) run (c .run)) ⌝ }
 {
     put(words, 2 * k, adjust(north, c.north, run, c.run));
     put(words, 2 * k + 1, adjust(east, c.east, run, c.run));
@@ -82,8 +86,9 @@ fn put_station(words: &mut [i64], k: usize, north: Whole, east: Whole, run: u64,
 pub fn put_all(n: usize, spots: &[i64], runs: &[u64], c: Sums, words: &mut [i64])
     requires { ⌜ Shared n (now spots) (now runs) c ⌝ }
     requires { ⌜ Near c ⌝ }
-    requires { ⌜ 130 ≤ length (now words) ⌝ }
-    ensures { λ r. ⌜ now (words .exit) ≡ putTo (now (spots .entry)) (now (runs .entry)) c (n + 1) (now (words .entry)) ⌝ }
+    requires { ⌜ stationWords ≤ length (now words) ⌝ }
+    ensures { λ r. ⌜ now (words .exit)
+        ≡ putTo (now (spots .entry)) (now (runs .entry)) c (n + 1) (now (words .entry)) ⌝ }
 {
     let mut k: usize = 0;
     while k <= n {

@@ -1,11 +1,22 @@
-// A tape as text: a line for each record, with all decimals. The tape is one that reads, so each record is whole and its fields are in range.
+// A tape as text: a line for each record, with all decimals. The tape is one that reads, so each
+// record is whole and its fields are in range.
 use crate::put;
 use crate::scan;
+use crate::units;
+use records::CLOSE_BYTES;
+use records::LEG;
+use records::LEG_BYTES;
+use records::PROJECT;
+use records::PROJECT_BYTES;
+use records::ROW;
+use records::ROW_BYTES;
+use records::START;
+use records::START_BYTES;
 ghost use mathlib.Core.Path.{_≡_};
 ghost use Prim.Native.Nat.{_+_, _*_, _<_, _≤_};
 ghost use lib.ListN.{length};
 
-// The byte so many behind a place.
+// The byte `steps` after a place, and 0 where the tape has none.
 fn byte_behind(tape: &[u8], at: usize, steps: usize) -> u64
     ensures { λ r. ⌜ r < 256 ⌝ }
 {
@@ -52,21 +63,31 @@ fn four_behind(tape: &[u8], at: usize, steps: usize) -> u64
 // A blank, and then degrees, minutes and seconds of an amount in tenths of a second.
 fn circle(out: &mut [u8], place: usize, value: u64) -> usize {
     let blank = put::bytes(out, place, b" ");
-    let degrees = put::number(out, blank, value / 36000);
+    let degrees = put::number(out, blank, value / units::TENTHS_IN_DEGREE);
     let between = put::bytes(out, degrees, b" ");
-    let minutes = put::padded(out, between, value / 600 % 60, 2);
+    let minutes = put::padded(
+        out,
+        between,
+        value / units::TENTHS_IN_MINUTE % units::WIDE_MINUTES_IN_DEGREE,
+        2,
+    );
     let behind = put::bytes(out, minutes, b" ");
-    let seconds = put::padded(out, behind, value % 600 / 10, 2);
+    let seconds = put::padded(
+        out,
+        behind,
+        value % units::TENTHS_IN_MINUTE / units::TENTHS_IN_SECOND,
+        2,
+    );
     let point = put::bytes(out, seconds, b".");
-    put::padded(out, point, value, 1)
+    put::padded(out, point, value, units::SECONDS_DECIMALS)
 }
 
 // A blank, and then degrees and minutes of a latitude in minutes.
 fn latitude(out: &mut [u8], place: usize, value: u64) -> usize {
     let blank = put::bytes(out, place, b" ");
-    let degrees = put::number(out, blank, value / 60);
+    let degrees = put::number(out, blank, value / units::WIDE_MINUTES_IN_DEGREE);
     let between = put::bytes(out, degrees, b" ");
-    put::padded(out, between, value % 60, 2)
+    put::padded(out, between, value % units::WIDE_MINUTES_IN_DEGREE, 2)
 }
 
 fn decimal(out: &mut [u8], place: usize, value: u64, decimals: usize) -> usize {
@@ -89,7 +110,12 @@ fn elevation(out: &mut [u8], place: usize, value: u64) -> usize
 fn row_line(tape: &[u8], at: usize, out: &mut [u8], place: usize) -> usize {
     let word = put::bytes(out, place, b"row");
     let minute = latitude(out, word, two_behind(tape, at, 1));
-    decimal(out, minute, four_behind(tape, at, 3), 7)
+    decimal(
+        out,
+        minute,
+        four_behind(tape, at, 3),
+        units::FACTOR_DECIMALS,
+    )
 }
 
 fn project_line(tape: &[u8], at: usize, out: &mut [u8], place: usize) -> usize {
@@ -98,12 +124,22 @@ fn project_line(tape: &[u8], at: usize, out: &mut [u8], place: usize) -> usize {
     elevation(out, minute, two_behind(tape, at, 3))
 }
 
-// Northing, easting and azimuth to the mark, from so many bytes behind the record's first on.
+// Northing, easting and azimuth to the mark, from the byte `steps` after the record's first on.
 fn fixed_point(tape: &[u8], at: usize, steps: usize, out: &mut [u8], place: usize) -> usize
     requires { ⌜ steps < 50 ⌝ }
 {
-    let northing = decimal(out, place, four_behind(tape, at, steps), 2);
-    let easting = decimal(out, northing, four_behind(tape, at, steps + 4), 2);
+    let northing = decimal(
+        out,
+        place,
+        four_behind(tape, at, steps),
+        units::COORDINATE_DECIMALS,
+    );
+    let easting = decimal(
+        out,
+        northing,
+        four_behind(tape, at, steps + 4),
+        units::COORDINATE_DECIMALS,
+    );
     circle(out, easting, four_behind(tape, at, steps + 8))
 }
 
@@ -115,7 +151,12 @@ fn start_line(tape: &[u8], at: usize, out: &mut [u8], place: usize) -> usize {
 fn leg_line(tape: &[u8], at: usize, out: &mut [u8], place: usize) -> usize {
     let word = put::bytes(out, place, b"leg");
     let angle = circle(out, word, four_behind(tape, at, 1));
-    decimal(out, angle, four_behind(tape, at, 5), 3)
+    decimal(
+        out,
+        angle,
+        four_behind(tape, at, 5),
+        units::DISTANCE_DECIMALS,
+    )
 }
 
 fn close_line(tape: &[u8], at: usize, out: &mut [u8], place: usize) -> usize {
@@ -126,10 +167,10 @@ fn close_line(tape: &[u8], at: usize, out: &mut [u8], place: usize) -> usize {
 
 fn record_line(tape: &[u8], at: usize, out: &mut [u8], place: usize) -> usize {
     match scan::byte_at(tape, at) {
-        5 => row_line(tape, at, out, place),
-        1 => project_line(tape, at, out, place),
-        2 => start_line(tape, at, out, place),
-        3 => leg_line(tape, at, out, place),
+        ROW => row_line(tape, at, out, place),
+        PROJECT => project_line(tape, at, out, place),
+        START => start_line(tape, at, out, place),
+        LEG => leg_line(tape, at, out, place),
         _ => close_line(tape, at, out, place),
     }
 }
@@ -138,11 +179,11 @@ fn record_bytes(kind: u8) -> usize
     ensures { λ r. ⌜ 0 < r ⌝ }
 {
     match kind {
-        5 => 7,
-        1 => 5,
-        2 => 13,
-        3 => 9,
-        _ => 17,
+        ROW => ROW_BYTES,
+        PROJECT => PROJECT_BYTES,
+        START => START_BYTES,
+        LEG => LEG_BYTES,
+        _ => CLOSE_BYTES,
     }
 }
 

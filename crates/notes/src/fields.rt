@@ -1,9 +1,12 @@
-// The fields of a line, one behind the other. What is read last carries the first fault on: behind a fault nothing more is read.
+// The fields of a line, one behind the other. What is read last carries the first fault on: behind
+// a fault nothing more is read.
 use crate::Fault;
 use crate::Item;
 use crate::number;
 use crate::number::Number;
 use crate::scan;
+use crate::units;
+use minutes::quadrant::TENTHS_IN_MINUTE;
 ghost use Prim.Native.Nat.{_<_};
 
 // The amount read last, in units of its last decimal, the place behind it, and the first fault.
@@ -30,10 +33,10 @@ fn wrong(at: usize, fault: Fault) -> Amount {
 
 pub fn decimals_of(item: Item) -> usize {
     match item {
-        Item::Factor => 7,
-        Item::Northing | Item::Easting => 2,
-        Item::AzimuthSeconds | Item::AngleSeconds => 1,
-        Item::Distance => 3,
+        Item::Factor => units::FACTOR_DECIMALS,
+        Item::Northing | Item::Easting => units::COORDINATE_DECIMALS,
+        Item::AzimuthSeconds | Item::AngleSeconds => units::SECONDS_DECIMALS,
+        Item::Distance => units::DISTANCE_DECIMALS,
         _ => 0,
     }
 }
@@ -41,8 +44,10 @@ pub fn decimals_of(item: Item) -> usize {
 // The value that an item stays below, minutes and seconds 60; 0 where the writer alone judges.
 fn limit_of(item: Item) -> u32 {
     match item {
-        Item::LatitudeMinutes | Item::AzimuthMinutes | Item::AngleMinutes => 60,
-        Item::AzimuthSeconds | Item::AngleSeconds => 600,
+        Item::LatitudeMinutes | Item::AzimuthMinutes | Item::AngleMinutes => {
+            units::MINUTES_IN_DEGREE
+        }
+        Item::AzimuthSeconds | Item::AngleSeconds => TENTHS_IN_MINUTE,
         _ => 0,
     }
 }
@@ -114,7 +119,9 @@ pub fn latitude_next(text: &[u8], before: Amount) -> Amount {
     let minutes = item_next(text, degrees, Item::LatitudeMinutes);
     let fault = minutes.fault;
     Amount {
-        value: number::narrow(wide(degrees.value) * 60 + wide(minutes.value)),
+        value: number::narrow(
+            wide(degrees.value) * units::WIDE_MINUTES_IN_DEGREE + wide(minutes.value),
+        ),
         at: minutes.at,
         fault,
     }
@@ -125,7 +132,9 @@ fn circle_of(degrees: Amount, minutes: Amount, seconds: Amount) -> Amount {
     let fault = seconds.fault;
     Amount {
         value: number::narrow(
-            wide(degrees.value) * 36000 + wide(minutes.value) * 600 + wide(seconds.value),
+            wide(degrees.value) * units::TENTHS_IN_DEGREE
+                + wide(minutes.value) * units::TENTHS_IN_MINUTE
+                + wide(seconds.value),
         ),
         at: seconds.at,
         fault,

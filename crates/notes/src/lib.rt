@@ -1,10 +1,15 @@
-// Field notes: a traverse as lines of text, turned into a tape by the proved writer of records. docs/NOTES.md has the form of the text.
+// Field notes: a traverse as lines of text, turned into a tape by the proved writer of records.
+// docs/NOTES.md has the form of the text.
+use answer::refusal;
 use tape::Reading;
 use writer::Written;
 ghost use mathlib.Core.Path.{_≡_};
 ghost use Prim.Native.Nat.{_≤_};
 ghost use lib.ListN.{length, take};
 ghost use Rattle.notes.specs.Noting.{Owed, textLengthOf};
+
+// The bytes that the text of a tape asks for: the longest text has room in them.
+pub const TEXT_BYTES: usize = 16_384;
 
 // The word that a line starts with.
 pub enum Word {
@@ -33,7 +38,8 @@ pub enum Item {
     Distance,
 }
 
-// What is wrong with a text: the first eight of a line by itself, the others of the tape that the lines make. `Nothing` is never answered.
+// What is wrong with a text: the first eight of a line by itself, the others of the tape that the
+// lines make. `Nothing` is never answered.
 pub enum Fault {
     Nothing,
     UnknownWord,
@@ -51,13 +57,15 @@ pub enum Fault {
     Ended,
 }
 
-// The length of the tape, or the first fault and the number of its line, counted from 1; 0 is the end of the text.
+// The length of the tape, or the first fault and the number of its line, counted from 1; 0 is the
+// end of the text.
 pub enum Noted {
     Tape(usize),
     Wrong { line: usize, fault: Fault },
 }
 
-// The length of a tape's text, or the refusal: the tape's, or 1 where less than 16,384 bytes are lent, which hold the longest text.
+// The length of a tape's text, or the refusal: the tape's, or 1 where less than 16,384 bytes are
+// lent, which hold the longest text.
 pub enum Texted {
     Text(usize),
     Refused { number: u32, place: usize },
@@ -76,6 +84,7 @@ mod message;
 mod number;
 mod put;
 mod scan;
+mod units;
 
 // The line whose first word starts at a place, written as a record.
 fn put_line(text: &[u8], from: usize, out: &mut [u8], place: usize) -> Entry {
@@ -88,7 +97,7 @@ fn put_line(text: &[u8], from: usize, out: &mut [u8], place: usize) -> Entry {
     match writer::write(out, place, record) {
         Written::Until(next) => Entry::Until(next),
         Written::Refused { number, .. } => {
-            if number == 1 {
+            if number == refusal::NO_ROOM {
                 return Entry::Wrong(Fault::Room);
             }
             Entry::Wrong(Fault::Range(lines::word_at(text, from)))
@@ -144,7 +153,8 @@ fn less(all: usize, part: usize) -> usize {
     all - part
 }
 
-// The number of the line whose record starts at a place of the tape, counted from 1; 0 is the end of the text.
+// The number of the line whose record starts at a place of the tape, counted from 1; 0 is the end
+// of the text.
 fn line_of(text: &[u8], place: usize) -> usize {
     let mut at = 0;
     let mut passed = 0;
@@ -162,12 +172,12 @@ fn line_of(text: &[u8], place: usize) -> usize {
 }
 
 // What the refusal of a tape whose records are all in range says of the text.
-fn fault_of(refusal: u32) -> Fault {
-    match refusal {
-        3 => Fault::Order,
-        5 => Fault::Rows,
-        6 => Fault::Legs,
-        7 => Fault::Latitude,
+fn fault_of(number: u32) -> Fault {
+    match number {
+        refusal::OUT_OF_ORDER => Fault::Order,
+        refusal::BAD_ROWS => Fault::Rows,
+        refusal::TOO_MANY_LEGS => Fault::Legs,
+        refusal::NO_ROW => Fault::Latitude,
         _ => Fault::Ended,
     }
 }
@@ -201,7 +211,8 @@ pub fn tape_of(text: &[u8], out: &mut [u8]) -> Noted
     }
 }
 
-// What a fault says, in words, put from the first lent byte on; 256 bytes are enough. The number of bytes is answered.
+// What a fault says, in words, put from the first lent byte on; 256 bytes are enough. The number of
+// bytes is answered.
 pub fn message_of(line: usize, fault: Fault, out: &mut [u8]) -> usize
     ensures { λ r. ⌜ r ≤ length (now (out .entry)) ⌝ }
 {
@@ -213,7 +224,8 @@ pub fn message_of(line: usize, fault: Fault, out: &mut [u8]) -> usize
     end
 }
 
-// What a refusal says, in words, put from the first lent byte on; 256 bytes are enough. The number of bytes is answered.
+// What a refusal says, in words, put from the first lent byte on; 256 bytes are enough. The number
+// of bytes is answered.
 pub fn refusal_of(number: u32, place: usize, out: &mut [u8]) -> usize
     ensures { λ r. ⌜ r ≤ length (now (out .entry)) ⌝ }
 {
@@ -231,20 +243,21 @@ fn text_within(tape: &[u8], out: &mut [u8]) -> Texted
     let end = back::records(tape, out);
     if out.len() < end {
         return Texted::Refused {
-            number: 1,
+            number: refusal::NO_ROOM,
             place: 0,
         };
     }
     Texted::Text(end)
 }
 
-// The text of a tape, from the first lent byte on: a line for each record, with all decimals. `tape_of` makes the same tape of it again.
+// The text of a tape, from the first lent byte on: a line for each record, with all decimals.
+// `tape_of` makes the same tape of it again.
 pub fn text_of(tape: &[u8], out: &mut [u8]) -> Texted
     ensures { λ r. ⌜ textLengthOf r ≤ length (now (out .entry)) ⌝ }
 {
-    if out.len() < 16384 {
+    if out.len() < TEXT_BYTES {
         return Texted::Refused {
-            number: 1,
+            number: refusal::NO_ROOM,
             place: 0,
         };
     }
@@ -254,7 +267,8 @@ pub fn text_of(tape: &[u8], out: &mut [u8]) -> Texted
     }
 }
 
-// The bytes that an answer counts: those at the front of what was lent, all of them where it has no more.
+// The bytes that an answer counts: those at the front of what was lent, all of them where it has no
+// more.
 pub fn front(room: &[u8], n: usize) -> &[u8]
     ensures { λ r. ⌜ now r ≡ take n (now (room .entry)) ⌝ }
 {

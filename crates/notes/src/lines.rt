@@ -5,7 +5,12 @@ use crate::Word;
 use crate::fields;
 use crate::fields::Amount;
 use crate::scan;
+use records::CLOSE_BYTES;
+use records::LEG_BYTES;
+use records::PROJECT_BYTES;
+use records::ROW_BYTES;
 use records::Record;
+use records::START_BYTES;
 use whole::Whole;
 
 // The record that a line says, or what is wrong with the line.
@@ -139,11 +144,11 @@ pub fn line_at(text: &[u8], from: usize) -> Line {
 // How many bytes of tape a line of this word becomes.
 pub fn bytes_of(word: Word) -> usize {
     match word {
-        Word::Row => 7,
-        Word::Project => 5,
-        Word::Start => 13,
-        Word::Leg => 9,
-        Word::Close => 17,
+        Word::Row => ROW_BYTES,
+        Word::Project => PROJECT_BYTES,
+        Word::Start => START_BYTES,
+        Word::Leg => LEG_BYTES,
+        Word::Close => CLOSE_BYTES,
         Word::Other => 0,
     }
 }

@@ -3,6 +3,7 @@ use crate::Fault;
 use crate::Item;
 use crate::Word;
 use crate::put;
+use answer::refusal;
 
 fn three(out: &mut [u8], start: usize, first: &[u8], what: &[u8], last: &[u8]) -> usize {
     let named = put::bytes(out, start, first);
@@ -163,24 +164,24 @@ pub fn refusal_at(out: &mut [u8], number: u64, place: u64) -> usize {
 
 pub fn refusal_words(out: &mut [u8], place: usize, number: u32) -> usize {
     match number {
-        1 => put::bytes(out, place, b"too little room is lent"),
-        2 => put::bytes(
+        refusal::NO_ROOM => put::bytes(out, place, b"too little room is lent"),
+        refusal::CUT_SHORT => put::bytes(
             out,
             place,
             b"the tape ends in this record, or before the close",
         ),
-        3 => put::bytes(
+        refusal::OUT_OF_ORDER => put::bytes(
             out,
             place,
             b"a kind unknown or out of order, or a byte behind the close",
         ),
-        4 => put::bytes(out, place, b"a field out of range"),
-        5 => put::bytes(
+        refusal::OUT_OF_RANGE => put::bytes(out, place, b"a field out of range"),
+        refusal::BAD_ROWS => put::bytes(
             out,
             place,
             b"a row not one minute above the row before, or a 601st row",
         ),
-        6 => put::bytes(out, place, b"a 65th leg"),
+        refusal::TOO_MANY_LEGS => put::bytes(out, place, b"a 65th leg"),
         _ => put::bytes(out, place, b"no row for the mean latitude"),
     }
 }

@@ -1,14 +1,20 @@
-// A number as it is written: digits, and behind a point the decimals, of which fewer than the field has may be given and never more.
+// A number as it is written: digits, and behind a point the decimals, of which fewer than the field
+// has may be given and never more.
 ghost use Prim.Native.Nat.{_<_};
 use crate::scan;
 
-// A value above every field's range. A number that has reached it grows no further, so that no number is too long.
-const ABOVE: u64 = 1000000000000;
+// A value above every field's range. A number that has reached it grows no further, so that no
+// number is too long.
+const ABOVE: u64 = 1_000_000_000_000;
 
 // The largest u32, above every field's range too.
-const WIDEST: u64 = 4294967295;
+const WIDEST: u32 = 4_294_967_295;
 
-// The digits from a place on, behind those of a value before: the value of all, and the place behind them.
+// The largest u32, as wide as the values that are compared with it.
+const WIDE_WIDEST: u64 = WIDEST as u64;
+
+// The digits from a place on, behind those of a value before: the value of all, and the place
+// behind them.
 pub struct Digits {
     pub value: u64,
     pub at: usize,
@@ -70,10 +76,10 @@ fn padded(value: u64, zeros: usize) -> u64 {
 
 // As a field of four bytes; what is wider is out of every range, and stays so.
 pub fn narrow(value: u64) -> u32 {
-    if value < WIDEST {
+    if value < WIDE_WIDEST {
         return value as u32;
     }
-    4294967295
+    WIDEST
 }
 
 // The number that stands from a place up to another, in units of its last decimal.

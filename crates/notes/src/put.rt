@@ -1,5 +1,5 @@
-// Text put into lent bytes, from a place on, by the proved writers of `text`: each answers the place behind it. What has no room is left out, and never
-// put in part.
+// Text put into lent bytes, from a place on, by the proved writers of `text`: each answers the
+// place behind it. What has no room is left out, and never put in part.
 ghost use Prim.Native.Nat.{_<_};
 
 pub fn bytes(out: &mut [u8], place: usize, what: &[u8]) -> usize {
@@ -11,10 +11,13 @@ pub fn bytes(out: &mut [u8], place: usize, what: &[u8]) -> usize {
     place
 }
 
-// A number is put where the largest has room, which has 20 digits.
+// The digits of the largest u64.
+const MOST_DIGITS: usize = 20;
+
+// A number is put where the largest has room.
 pub fn number(out: &mut [u8], place: usize, value: u64) -> usize {
     if place <= out.len() {
-        if 20 <= out.len() - place {
+        if MOST_DIGITS <= out.len() - place {
             return text::put_decimal(out, place, value);
         }
     }
@@ -31,7 +34,7 @@ pub fn padded(out: &mut [u8], place: usize, value: u64, count: usize) -> usize {
     place
 }
 
-// One behind the largest number of so many digits.
+// 10 to the power `digits`, for the decimals that a number of the text may have.
 fn power_of(digits: usize) -> u64
     ensures { λ r. ⌜ 0 < r ⌝ }
 {

@@ -1,4 +1,5 @@
-// Looking along a text. Any place may be asked for: past its end a text has the byte 0, and nothing more to say.
+// Looking along a text. Any place may be asked for: past its end a text has the byte 0, and nothing
+// more to say.
 ghost use Prim.Native.Nat.{_<_, _≤_};
 ghost use lib.ListN.{length};
 
@@ -16,7 +17,8 @@ fn is_blank(byte: u8) -> bool {
     byte == b'\t'
 }
 
-// Whether a line says nothing more from a place on: there it ends, with LF, with CR LF or with the text, or a comment starts.
+// Whether a line says nothing more from a place on: there it ends, with LF, with CR LF or with the
+// text, or a comment starts.
 pub fn is_over(text: &[u8], at: usize) -> bool {
     if at < text.len() {
         let byte = text[at];
