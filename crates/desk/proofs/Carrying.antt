@@ -1,5 +1,6 @@
--- The first step on the bytes of a tape that reads. What the walk sights at leg k is the leg's own angle and distance; the azimuths
--- carried with them are the carried ones, and what is left in the lists is the traverse with its angles balanced.
+-- The first step on the bytes of a tape that reads. What the walk sights at leg k is the leg's own
+-- angle and distance; the azimuths carried with them are the carried ones, and what is left in the
+-- lists is the traverse with its angles balanced.
 use Prim.Native.Nat.{ℕ, _+_, _-_, _≤_, _<_}
 use native.Mathlib.Omega.{arith}
 use native.Mathlib.Nat.{mod-lt}
@@ -13,7 +14,8 @@ use Rattle.minutes.specs.Quadrant.{circle}
 use Rattle.steps.specs.Azimuth.{fromMark, onward, misclosure, closesAngles}
 use Rattle.tape.specs.Fields.{Fields, fieldsOf}
 use Rattle.whole.specs.Filled.{filled}
-use Rattle.desk.specs.Angles.{angleAt, distanceAt, turnsOf, misclosureOf, zeros, balancedTraverse}
+use Rattle.desk.specs.Angles.{angleAt, distanceAt, turnsOf, misclosureOf, zeros}
+use Rattle.desk.specs.Angles.{balancedTraverse}
 use Rattle.desk.specs.Answer.{stopped, good, checkedAngles}
 use Rattle.desk.specs.Inside.{Known, Ready, Scaled, AllTurned}
 use Rattle.desk.specs.Inside.{balancedIn, frameOf, withLegs}
@@ -60,7 +62,11 @@ module _ (tape : List ℕ) (c : Control) (known : Known tape c) where
   legs-room z e = omega (arith, legs-few, ap length e, length-replicate {A = ℕ} 64 0)
 
   pub scaled : Scaled c
-  scaled = rw (known .is) (record { elevation = ready .elevation; scale = (ready .scale-low, ready .scale-high) })
+  scaled =
+      rw (known .is) (record {
+        elevation = ready .elevation;
+        scale = (ready .scale-low, ready .scale-high);
+      })
 
   pub mark-turned : c .mark < circle
   mark-turned = rw (known .is) (ready .mark)
@@ -72,7 +78,11 @@ module _ (tape : List ℕ) (c : Control) (known : Known tape c) where
   pub first-sight : (s : Sight) → s ≡ sightAt tape (c .line) → Sighted tape 0 s
   first-sight s e =
       let line = ap (λ (x : Control). x .line) (known .is) in
-      record { at = c .line; is = e; stands = rw line (leg-first tape (known .bytes) (known .reads)) }
+      record {
+        at = c .line;
+        is = e;
+        stands = rw line (leg-first tape (known .bytes) (known .reads));
+      }
 
   module _ (k : ℕ) (s : Sight) (h : Sighted tape k s) where
     angle-at : s .angle ≡ angleAt f k
@@ -90,10 +100,12 @@ module _ (tape : List ℕ) (c : Control) (known : Known tape c) where
           record {
             at = s .next;
             is = e;
-            stands = rw (ap (λ (x : Sight). x .next) (h .is)) (leg-next tape (known .reads) k (h .at) (h .stands) under);
+            stands =
+                rw (ap (λ (x : Sight). x .next) (h .is)) (leg-next tape (known .reads) k (h .at) (h .stands) under);
           }
 
-      pub distance-next : (l m : List ℕ) → l ≡ filled (distanceAt f) k m → set l k (s .distance) ≡ filled (distanceAt f) (k + 1) m
+      pub distance-next : (l m : List ℕ) → l ≡ filled (distanceAt f) k m
+          → set l k (s .distance) ≡ filled (distanceAt f) (k + 1) m
       distance-next l m i =
           filled-on (distanceAt f) m k (s .distance) l i
           (ap (λ (x : Sight). x .distance) (h .is) ∙ leg-distance tape (known .reads) k (h .at) (h .stands) under)
@@ -101,14 +113,17 @@ module _ (tape : List ℕ) (c : Control) (known : Known tape c) where
   pub first-turned : (s : Sight) → s ≡ sightAt tape (c .line) → s .angle < circle
   first-turned s e = sight-turned 0 s (first-sight s e) (omega arith)
 
-  pub next-turned : (k : ℕ) (s u : Sight) → Sighted tape k s → k < c .legs → u ≡ sightAt tape (s .next) → u .angle < circle
+  pub next-turned : (k : ℕ) (s u : Sight) → Sighted tape k s → k < c .legs
+      → u ≡ sightAt tape (s .next) → u .angle < circle
   next-turned k s u h low e = sight-turned (k + 1) u (next-sight k s h low u e) (omega arith)
 
-  pub carried-first : (s : Sight) (r : ℕ) → s ≡ sightAt tape (c .line) → r ≡ fromMark (c .mark) (s .angle) → r ≡ carried t 0
+  pub carried-first : (s : Sight) (r : ℕ) → s ≡ sightAt tape (c .line)
+      → r ≡ fromMark (c .mark) (s .angle) → r ≡ carried t 0
   unfolding carried
   carried-first s r e i = i ∙ rw (angle-at 0 s (first-sight s e), known .is)
 
-  pub carried-next : (k : ℕ) (s u : Sight) (a r : ℕ) → Sighted tape k s → k < c .legs → u ≡ sightAt tape (s .next) → r ≡ onward a (u .angle)
+  pub carried-next : (k : ℕ) (s u : Sight) (a r : ℕ) → Sighted tape k s → k < c .legs
+      → u ≡ sightAt tape (s .next) → r ≡ onward a (u .angle)
       → a ≡ carried t k → r ≡ carried t (k + 1)
   carried-next k s u a r h low e i j =
       i ∙ rw (j, angle-at (k + 1) u (next-sight k s h low u e)) (carried-on t k)
@@ -133,7 +148,8 @@ module _ (tape : List ℕ) (c : Control) (known : Known tape c) where
     azimuths-carried = rw legs-is at g
 
     pub all-turned : AllTurned (c .legs) l
-    all-turned = rw (legs-is, azimuths-carried) (filled-turned t (f .line .legs) zeros few leg-one-turned)
+    all-turned =
+        rw (legs-is, azimuths-carried) (filled-turned t (f .line .legs) zeros few leg-one-turned)
 
     azimuths-balanced : (w : ℤ) (m : List ℕ) → m ≡ balancedIn w 1 (c .legs + 1) (c .legs) l
         → w ≡ misclosureOf f → m ≡ filled (balancedAt t (misclosureOf f)) (f .line .legs) zeros
@@ -163,7 +179,16 @@ module _ (tape : List ℕ) (c : Control) (known : Known tape c) where
         → l ≡ filled (carried t) (c .legs) zeros → m ≡ balancedIn (w .v) 1 (c .legs + 1) (c .legs) l
         → d ≡ filled (distanceAt f) (c .legs) zeros → good (withLegs b m d) ≡ checkedAngles f
     unfolding checkedAngles balancedTraverse
-    checked-good b l m d h e g i j = rw (← test-known, h, e, azimuths-balanced l g (w .v) m i misclosure-known, j, known .is, ← misclosure-known)
+    checked-good b l m d h e g i j =
+        rw (
+          ← test-known,
+          h,
+          e,
+          azimuths-balanced l g (w .v) m i misclosure-known,
+          j,
+          known .is,
+          ← misclosure-known,
+        )
 
     pub checked-bad : x ≡ false → stopped 8 (c .place) ≡ checkedAngles f
     unfolding checkedAngles

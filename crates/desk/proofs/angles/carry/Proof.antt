@@ -1,5 +1,6 @@
--- `carry` meets its contract. The loop's invariant: leg k is sighted, the azimuth is the one carried to it and within the circle, and
--- the lists are filled before it. The measure is the legs that are left.
+-- `carry` meets its contract. The loop's invariant: leg k is sighted, the azimuth is the one
+-- carried to it and within the circle, and the lists are filled before it. The measure is the legs
+-- that are left.
 use borrow.Author.Needs.{needs}
 use Prim.Native.Nat.{_-_, _≤_, _<_}
 use mathlib.Core.Path.{_≡_}
@@ -9,8 +10,10 @@ use Rattle.whole.specs.Filled.{filled}
 use Rattle.whole.proofs.Filling.{filled-on}
 use Rattle.desk.specs.Angles.{distanceAt, turnsOf}
 use Rattle.desk.specs.Turns.{carried}
-use Rattle.desk.proofs.Carrying.{Sighted, legs-room, mark-turned, first-sight, first-turned, carried-first}
-use Rattle.desk.proofs.Carrying.{next-sight, next-turned, carried-next, distance-next, carried-last, azimuths-last, distances-last}
+use Rattle.desk.proofs.Carrying.{Sighted, legs-room, mark-turned, first-sight, first-turned}
+use Rattle.desk.proofs.Carrying.{carried-first}
+use Rattle.desk.proofs.Carrying.{next-sight, next-turned, carried-next, distance-next}
+use Rattle.desk.proofs.Carrying.{carried-last, azimuths-last, distances-last}
 use Rattle.desk.proofs.angles.carry.Statement.{statement}
 use Rattle.desk.proofs.angles.carry.Tie as tie
 
@@ -23,7 +26,8 @@ Inv-loop tape c azimuths₀ distances₀ sight₀ azimuth₀ k₀ azimuths dista
     × (length azimuths ≡ length azimuths₀) × (length distances ≡ length distances₀)
 
 abbrev μ-loop : tie.MeasureT-loop
-μ-loop tape c azimuths₀ distances₀ sight₀ azimuth₀ k₀ azimuths distances sight azimuth k = c .legs - k
+μ-loop tape c azimuths₀ distances₀ sight₀ azimuth₀ k₀ azimuths distances sight azimuth k =
+    c .legs - k
 
 first-requires : tie.Need-first-requires Inv-loop μ-loop
 first-requires c κs = (search mark-turned, search first-turned)

@@ -1,5 +1,7 @@
--- `check_angles` meets its contract: the test of the misclosure decides between the refusal and the balanced traverse.
-use Rattle.desk.proofs.Carrying.{given-turned, closing-turned, legs-some, legs-few, all-turned, scaled, checked-good, checked-bad}
+-- `check_angles` meets its contract: the test of the misclosure decides between the refusal and the
+-- balanced traverse.
+use Rattle.desk.proofs.Carrying.{given-turned, closing-turned, legs-some, legs-few}
+use Rattle.desk.proofs.Carrying.{all-turned, scaled, checked-good, checked-bad}
 use borrow.Author.Needs.{needs}
 use Rattle.desk.proofs.checking.check_angles.Statement.{statement}
 use Rattle.desk.proofs.checking.check_angles.Tie as tie
