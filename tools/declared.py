@@ -61,12 +61,30 @@ def of_header(place: Path) -> Declared:
     return Declared(functions, constants)
 
 
+def bare(place: Path) -> str:
+    """A source without its comments."""
+    return re.sub(r"//[^\n]*", "", place.read_text(encoding="utf-8"))
+
+
+def constants_in(text: str) -> dict[str, str]:
+    """The lengths that a source names, each with its number."""
+    return {name: value.replace("_", "") for name, value in re.findall(r"\bconst (\w+): usize = (\d[\d_]*);", text)}
+
+
+def lent(text: str) -> dict[str, str]:
+    """The lengths that a source takes by name from another crate, as `use minutes::ENTRIES;` does."""
+    sources = ((name, ROOT / "crates" / crate / "src" / "lib.rt") for crate, name in re.findall(r"^use (\w+)::(\w+);", text, flags=re.M))
+    return {name: named[name] for name, place in sources if place.is_file() and name in (named := constants_in(bare(place)))}
+
+
 def of_code(places: list[Path], declaration: str, heads: list[str], lists: bool) -> Declared:
     """Rust, or Rattle, which has lists. A declaration has name, parameters and answer; each one has all the heads, and nothing else has any."""
     functions, constants = {}, {}
     for place in places:
-        text = re.sub(r"//[^\n]*", "", place.read_text(encoding="utf-8"))
-        constants |= dict(re.findall(r"\bconst (\w+): usize = (\d+);", text))
+        constants |= constants_in(bare(place))
+    for place in places:
+        text = bare(place)
+        lengths = constants | lent(text)
 
         def parameter(part: str) -> list[str]:
             read = re.fullmatch(r"(\w+): (?:(&mut |&|\*mut |\*const )(\[?))?(\w+)(?:; (\w+))?\]?", part)
@@ -75,7 +93,7 @@ def of_code(places: list[Path], declaration: str, heads: list[str], lists: bool)
             name, pointer, bracket, kind, size = read.groups()
             to = "" if not pointer else "*mut " if "mut" in pointer else "*const "
             if size:
-                return [f"{name}: {to}[{kind}; {constants.get(size, size)}]"]
+                return [f"{name}: {to}[{kind}; {lengths.get(size, size)}]"]
             return [f"{name}: {to}{kind}"] + [f"{name}_len: usize"] * bool(bracket)
 
         found = re.findall(declaration, text)

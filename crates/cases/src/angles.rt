@@ -1,4 +1,5 @@
-// A, an angle of four bytes: answered by its sine and its cosine, a line each, and both again with the library's table lent.
+// A, an angle of four bytes: answered by its sine and its cosine, a line each, and both again with
+// the library's table lent.
 use crate::input;
 use crate::output;
 

@@ -1,5 +1,7 @@
-// S, a call of an arithmetic step: the step's number (one byte) and its arguments (eight bytes each, angles four; before the offsets of the doubled area
-// stands their count, one byte). Answered by number, place and value.
+// S, a call of an arithmetic step: the step's number (one byte) and its arguments (eight bytes
+// each, angles four; before the offsets of the doubled area stands their count, one byte). Answered
+// by number, place and value.
+use crate::input::WORDS;
 use crate::input::read_i64;
 use crate::input::read_room;
 use crate::input::read_u8;
@@ -31,7 +33,7 @@ fn tell_area(offsets: &mut [i64]) {
 }
 
 fn read_area() {
-    let mut offsets = [0i64; 256];
+    let mut offsets = [0i64; WORDS];
     let n = read_room(&offsets);
     tell_area(&mut offsets[..n]);
 }
@@ -53,7 +55,7 @@ pub fn answer() {
         13 => tell_verdict(closure::closes(read_i64(), read_i64(), read_u64())),
         14 => tell_count(closure::precision(read_i64(), read_i64(), read_u64())),
         15 => read_area(),
-        // the same with the library's table lent
+        // latitude and departure with the library's table lent
         16 => tell_amount(course::latitude_in(&sines::table(), read_u64(), read_u32())),
         17 => tell_amount(course::departure_in(&sines::table(), read_u64(), read_u32())),
         _ => {}

@@ -1,5 +1,6 @@
-// N, field notes: a text behind its length. Answered by its tape in hexadecimal digits, the tape's own text, whether the two texts are the same, and what
-// is said where one byte less is lent than the tape takes; or by what is wrong with the text. What is expected is made from docs/NOTES.md.
+// N, field notes: a text after its length. Answered by its tape in hexadecimal digits, the tape's
+// own text, whether the two texts are the same, and what is said where one byte less is lent than
+// the tape takes; or by what is wrong with the text. What is expected is made from docs/NOTES.md.
 use crate::input;
 use crate::output::print;
 use crate::output::print_place;
@@ -43,7 +44,7 @@ fn print_back(text: &[u8], tape: &[u8], back: &mut [u8]) {
     }
 }
 
-// The same text with too little room: a tape would show as a difference.
+// A text again, with too little room: a tape would show as a difference.
 fn print_short(text: &[u8], out: &mut [u8], back: &mut [u8]) {
     match notes::tape_of(text, out) {
         Noted::Tape(_n) => print(b"room\n"),

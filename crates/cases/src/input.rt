@@ -1,10 +1,14 @@
-// What a bundle consists of: numbers, high byte first, and bytes behind their length. Behind its end all are 0, or no bytes.
+// What a bundle consists of: numbers, high byte first, and bytes after their length. After its
+// end all are 0, or no bytes.
 use libc::STDIN_FILENO;
 use whole::Whole;
 ghost use mathlib.Core.Path.{_≡_};
 ghost use Prim.Native.Nat.{_<_, _≤_};
 ghost use lib.ListN.{length, take};
 ghost use Rattle.io.specs.Counts.{Counts};
+
+// As many words as a case may lend: a count of one byte is below this.
+pub const WORDS: usize = 256;
 
 fn wide(x: u8) -> u32
     ensures { λ r. ⌜ r < 256 ⌝ }
@@ -50,7 +54,8 @@ pub fn read_i64() -> Whole {
 
 // How many words are lent, a count of one byte: no more than there are.
 pub fn read_room(words: &[i64]) -> usize
-    ensures { λ r. ⌜ (r ≤ length (now (words .entry))) × (r ≡ length (take r (now (words .entry)))) ⌝ }
+    ensures { λ r. ⌜ (r ≤ length (now (words .entry)))
+        × (r ≡ length (take r (now (words .entry)))) ⌝ }
 {
     let n = read_u8() as usize;
     if n < words.len() {
@@ -59,7 +64,7 @@ pub fn read_room(words: &[i64]) -> usize
     words.len()
 }
 
-// So many bytes, but no more than there are.
+// n bytes, but no more than there are.
 pub fn at_most(n: usize, room: &[u8]) -> usize
     ensures { λ r. ⌜ Counts r (now (room .entry)) ⌝ }
 {
@@ -69,7 +74,8 @@ pub fn at_most(n: usize, room: &[u8]) -> usize
     room.len()
 }
 
-// A length in two bytes and as many bytes behind it, to the front of the room; answers how many there were.
+// A length in two bytes and as many bytes after it, to the front of the room; answers how many
+// there were.
 pub fn read_bytes(room: &mut [u8]) -> usize
     ensures { λ r. ⌜ Counts r (now (room .exit)) ⌝ }
 {

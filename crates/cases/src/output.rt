@@ -1,7 +1,9 @@
-// What is answered, as text: a line starts with number and place, and each value stands behind a blank.
+// What is answered, as text: a line starts with number and place, and each value stands after a
+// blank.
 use answer::Amount;
 use answer::Count;
 use answer::Verdict;
+use answer::refusal::OUT_OF_RANGE;
 use libc::STDOUT_FILENO;
 use whole::Whole;
 
@@ -42,14 +44,14 @@ pub fn tell_amount(answer: Amount) {
             print_amount(z);
             print(b"\n");
         }
-        Amount::OutOfRange => tell(4, 0),
+        Amount::OutOfRange => tell(OUT_OF_RANGE, 0),
     }
 }
 
 pub fn tell_count(answer: Count) {
     match answer {
         Count::Is(n) => tell(0, n),
-        Count::OutOfRange => tell(4, 0),
+        Count::OutOfRange => tell(OUT_OF_RANGE, 0),
     }
 }
 
@@ -57,6 +59,6 @@ pub fn tell_verdict(answer: Verdict) {
     match answer {
         Verdict::Passes => tell(0, 1),
         Verdict::Fails => tell(0, 0),
-        Verdict::OutOfRange => tell(4, 0),
+        Verdict::OutOfRange => tell(OUT_OF_RANGE, 0),
     }
 }

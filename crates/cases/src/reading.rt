@@ -1,4 +1,4 @@
-// T, the reading of a tape: a tape behind its length. Answered by number and place.
+// T, the reading of a tape: a tape after its length. Answered by number and place.
 use crate::input;
 use crate::output;
 use tape::Reading;

@@ -1,5 +1,6 @@
-// D, the desk: how many words are lent (one byte), how many bytes for the sheet (two), and a tape behind its length. Answered by a line of the traverse
-// and the words that it changed, a line of the sheet step, and what the program SHEET prints.
+// D, the desk: how many words are lent (one byte), how many bytes for the sheet (two), and a tape
+// after its length. Answered by a line of the traverse and the words that it changed, a line of
+// the sheet step, and what the program SHEET prints.
 use crate::input;
 use crate::output::print;
 use crate::output::print_amount;
@@ -7,10 +8,14 @@ use crate::output::print_count;
 use crate::output::print_place;
 use desk::Answer;
 use desk::Page;
+use desk::SHEET_BYTES;
 use whole::Whole;
 
 // What every lent word holds before: no coordinate is so large.
-const KEPT: i64 = 1000000000000000000;
+const KEPT: i64 = 1_000_000_000_000_000_000;
+
+// The most bytes that a case lends for the sheet: more than the sheet step asks for.
+const MOST_BYTES: usize = 4_200;
 
 // A word, where it no longer holds what it held.
 fn print_changed(word: i64) -> bool {
@@ -21,7 +26,8 @@ fn print_changed(word: i64) -> bool {
     true
 }
 
-// All words that changed. Answers where the last of them ends: as many as they are, if they are the first ones.
+// All words that changed. Answers where the last of them ends: as many as they are, if they are the
+// first ones.
 fn print_words(words: &[i64]) -> usize {
     let mut end: usize = 0;
     let mut i: usize = 0;
@@ -47,7 +53,8 @@ fn bytes_changed(bytes: &[u8]) -> usize {
     n
 }
 
-// Number, place, n, W, both closures, precision number, doubled area and loop mark: all but the first two zero on a refusal.
+// Number, place, n, W, both closures, precision number, doubled area and loop mark: all but the
+// first two zero on a refusal.
 fn print_answer(answer: Answer) {
     match answer {
         Answer::Refused { number, place } => {
@@ -94,15 +101,15 @@ fn print_sheet(tape: &[u8], out: &mut [u8]) {
 }
 
 fn print_program(tape: &[u8]) {
-    let mut out = [0u8; 4096];
+    let mut out = [0u8; SHEET_BYTES];
     let k = desk::print(tape, &mut out);
     print(notes::front(&out, k));
 }
 
 pub fn answer() {
-    let mut words = [KEPT; 256];
+    let mut words = [KEPT; input::WORDS];
     let lent_words = input::read_room(&words);
-    let mut out = [0u8; 4200];
+    let mut out = [0u8; MOST_BYTES];
     let lent_bytes = input::at_most(input::read_u16(), &out);
     let mut room = io::large_buffer();
     let n = input::read_bytes(&mut room);

@@ -27,13 +27,15 @@ pub record TellsVerdict (t : Told) (v : Bool) (n : ℕ) : Type 0 where
   pub number : n ≡ t .number
   pub value : passes v ≡ t .value
 
--- ---- the writer: p is the place that is stored, q the next place, and out′ what is left of the lent bytes
+-- ---- the writer: p is the place that is stored, q the next place, and out′ what is left of the
+-- lent bytes
 pub record TellsWritten (t : Write·Told) (p q n : ℕ) : Type 0 where
   pub number : n ≡ t .number
   pub place : p ≡ t .place
   pub next : q ≡ t .next
 
-pub record Writes (given : Record) (out : List ℕ) (at : ℕ) (out′ : List ℕ) (p q n : ℕ) : Type 0 where
+pub record Writes (given : Record) (out : List ℕ) (at : ℕ) (out′ : List ℕ) (p q n : ℕ)
+    : Type 0 where
   pub tells : TellsWritten (told (answerOf out at (goodRecord given) (bytesOfRecord given))) p q n
   pub left : out′ ≡ leftOf out at (goodRecord given) (bytesOfRecord given)
 
@@ -42,9 +44,22 @@ pub record TellsReading (t : Tape·Told) (p n : ℕ) : Type 0 where
   pub number : n ≡ t .number
   pub place : p ≡ t .place
 
--- ---- the traverse: l is the figures that are stored: n, W, both closures, the precision number, the doubled area, and 1 for a loop
+-- ---- the traverse: l is the figures that are stored: n, W, both closures, the precision number,
+-- the doubled area, and 1 for a loop
 unfoldable pub figuresOf : Desk·Told → List ℤ
-figuresOf t = pos (t .legs) ∷ t .w ∷ t .north ∷ t .east ∷ pos (t .precision) ∷ t .area ∷ passes (t .loop) ∷ []
+figuresOf t =
+    pos (t .legs)
+    ∷ t .w
+    ∷ t .north
+    ∷ t .east
+    ∷ pos (t .precision)
+    ∷ t .area
+    ∷ passes (t .loop)
+    ∷ []
+
+-- how many these figures are. src/lib.rt and the header call it FIGURES
+abbrev pub figureCount : ℕ
+figureCount = 7
 
 -- amounts as numbers
 unfoldable pub values : List Whole → List ℤ
@@ -56,7 +71,8 @@ pub record TellsTraverse (t : Desk·Told) (p : ℕ) (l : List ℤ) (n : ℕ) : T
   pub place : p ≡ t .place
   pub figures : l ≡ figuresOf t
 
--- ---- the sheet, by the entries e of a table of sines: q is the length that is stored, and out′ what is left of the lent bytes
+-- ---- the sheet, by the entries e of a table of sines: q is the length that is stored, and out′
+-- what is left of the lent bytes
 pub record TellsPage (t : Page·Told) (p q n : ℕ) : Type 0 where
   pub number : n ≡ t .number
   pub place : p ≡ t .place

@@ -1,10 +1,12 @@
 // The arithmetic steps. A refusal is always 4, at place 0.
 use crate::tell;
+use minutes::ENTRIES;
 use whole::Whole;
 ghost use Rattle.minutes.specs.Entry.{Table, entry};
 ghost use Rattle.sines.specs.Sine.{entryIn, sineBy, cosineBy, ofAngle};
 ghost use Rattle.steps.specs.Area.{areaStep};
-ghost use Rattle.steps.specs.Azimuth.{fromMarkStep, onwardStep, misclosureStep, misclosureTest, balancedStep};
+ghost use Rattle.steps.specs.Azimuth.{fromMarkStep, onwardStep, misclosureStep};
+ghost use Rattle.steps.specs.Azimuth.{misclosureTest, balancedStep};
 ghost use Rattle.steps.specs.Closure.{closureTest, precisionStep};
 ghost use Rattle.steps.specs.Course.{north as Course·north, east as Course·east, courseStep};
 ghost use Rattle.steps.specs.Distance.{seaLevelStep, combineStep, gridStep};
@@ -39,7 +41,7 @@ pub extern "C" fn vas_grid(distance: u64, factor: u64, value: &mut u64) -> u32
 // ---- sines
 // The desk's own table, written into the caller's.
 #[no_mangle]
-pub extern "C" fn vas_table(table: &mut [u32; 5401])
+pub extern "C" fn vas_table(table: &mut [u32; ENTRIES])
     ensures { λ r. ⌜ Table (now (table .exit)) ⌝ }
 {
     *table = sines::table();
@@ -60,17 +62,19 @@ pub extern "C" fn vas_cosine(angle: u32, value: &mut i64) -> u32
     tell::amount(sines::cosine(angle), value)
 }
 
-// The same in a lent table, whatever it holds.
+// The sine and the cosine of an angle in a lent table, whatever it holds.
 #[no_mangle]
-pub extern "C" fn vas_sine_in(table: &[u32; 5401], angle: u32, value: &mut i64) -> u32
-    ensures { λ r. ⌜ TellsAmount (ofAngle angle (sineBy (entryIn (now (table .entry))) angle)) (now (value .exit)) r ⌝ }
+pub extern "C" fn vas_sine_in(table: &[u32; ENTRIES], angle: u32, value: &mut i64) -> u32
+    ensures { λ r. ⌜ TellsAmount (ofAngle angle (sineBy (entryIn (now (table .entry))) angle))
+        (now (value .exit)) r ⌝ }
 {
     tell::amount(sines::sine_in(table, angle), value)
 }
 
 #[no_mangle]
-pub extern "C" fn vas_cosine_in(table: &[u32; 5401], angle: u32, value: &mut i64) -> u32
-    ensures { λ r. ⌜ TellsAmount (ofAngle angle (cosineBy (entryIn (now (table .entry))) angle)) (now (value .exit)) r ⌝ }
+pub extern "C" fn vas_cosine_in(table: &[u32; ENTRIES], angle: u32, value: &mut i64) -> u32
+    ensures { λ r. ⌜ TellsAmount (ofAngle angle (cosineBy (entryIn (now (table .entry))) angle))
+        (now (value .exit)) r ⌝ }
 {
     tell::amount(sines::cosine_in(table, angle), value)
 }
@@ -128,39 +132,45 @@ pub extern "C" fn vas_balanced(azimuth: u32, share: i64, value: &mut u64) -> u32
 // How far a grid distance moves north and east.
 #[no_mangle]
 pub extern "C" fn vas_latitude(distance: u64, azimuth: u32, value: &mut i64) -> u32
-    ensures { λ r. ⌜ TellsAmount (courseStep entry Course·north distance azimuth) (now (value .exit)) r ⌝ }
+    ensures { λ r. ⌜ TellsAmount (courseStep entry Course·north distance azimuth)
+        (now (value .exit)) r ⌝ }
 {
     tell::amount(steps::course::latitude(distance, azimuth), value)
 }
 
 #[no_mangle]
 pub extern "C" fn vas_departure(distance: u64, azimuth: u32, value: &mut i64) -> u32
-    ensures { λ r. ⌜ TellsAmount (courseStep entry Course·east distance azimuth) (now (value .exit)) r ⌝ }
+    ensures { λ r. ⌜ TellsAmount (courseStep entry Course·east distance azimuth)
+        (now (value .exit)) r ⌝ }
 {
     tell::amount(steps::course::departure(distance, azimuth), value)
 }
 
-// The same by the sines of a lent table.
+// How far a grid distance moves north and east, by the sines of a lent table.
 #[no_mangle]
 pub extern "C" fn vas_latitude_in(
-    table: &[u32; 5401],
+    table: &[u32; ENTRIES],
     distance: u64,
     azimuth: u32,
     value: &mut i64,
 ) -> u32
-    ensures { λ r. ⌜ TellsAmount (courseStep (entryIn (now (table .entry))) Course·north distance azimuth) (now (value .exit)) r ⌝ }
+    ensures { λ r. ⌜ TellsAmount
+        (courseStep (entryIn (now (table .entry))) Course·north distance azimuth)
+        (now (value .exit)) r ⌝ }
 {
     tell::amount(steps::course::latitude_in(table, distance, azimuth), value)
 }
 
 #[no_mangle]
 pub extern "C" fn vas_departure_in(
-    table: &[u32; 5401],
+    table: &[u32; ENTRIES],
     distance: u64,
     azimuth: u32,
     value: &mut i64,
 ) -> u32
-    ensures { λ r. ⌜ TellsAmount (courseStep (entryIn (now (table .entry))) Course·east distance azimuth) (now (value .exit)) r ⌝ }
+    ensures { λ r. ⌜ TellsAmount
+        (courseStep (entryIn (now (table .entry))) Course·east distance azimuth)
+        (now (value .exit)) r ⌝ }
 {
     tell::amount(steps::course::departure_in(table, distance, azimuth), value)
 }

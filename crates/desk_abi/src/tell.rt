@@ -1,7 +1,10 @@
-// An answer, told through the caller's numbers: the refusal's number comes back, and every other number that the answer tells is stored.
+// An answer, told through the caller's numbers: the refusal's number comes back, and every other
+// number that the answer tells is stored.
+use crate::FIGURES;
 use answer::Amount;
 use answer::Count;
 use answer::Verdict;
+use answer::refusal::OUT_OF_RANGE;
 use desk::Answer;
 use desk::Page;
 use tape::Taken;
@@ -15,7 +18,9 @@ ghost use Rattle.tape.specs.Fields.{toldTaken};
 ghost use Rattle.writer.specs.Write.{told as Write·told};
 ghost use Rattle.desk.specs.Answer.{told as Answer·told};
 ghost use Rattle.desk.specs.Sheet.{told as Page·told};
-ghost use Rattle.desk_abi.specs.Face.{TellsAmount, TellsCount, TellsVerdict, TellsWritten, TellsReading, TellsTraverse, figuresOf, values, TellsPage};
+ghost use Rattle.desk_abi.specs.Face.{TellsAmount, TellsCount, TellsVerdict};
+ghost use Rattle.desk_abi.specs.Face.{TellsWritten, TellsReading, TellsPage};
+ghost use Rattle.desk_abi.specs.Face.{figureCount, figuresOf, values, TellsTraverse};
 
 fn store(value: &mut i64, z: Whole)
     ensures { λ r. ⌜ now (value .exit) ≡ z .v ⌝ }
@@ -34,7 +39,7 @@ pub fn amount(a: Amount, value: &mut i64) -> u32
         }
         Amount::OutOfRange => {
             *value = 0;
-            4
+            OUT_OF_RANGE
         }
     }
 }
@@ -49,7 +54,7 @@ pub fn count(a: Count, value: &mut u64) -> u32
         }
         Count::OutOfRange => {
             *value = 0;
-            4
+            OUT_OF_RANGE
         }
     }
 }
@@ -68,7 +73,7 @@ pub fn verdict(a: Verdict, value: &mut bool) -> u32
         }
         Verdict::OutOfRange => {
             *value = false;
-            4
+            OUT_OF_RANGE
         }
     }
 }
@@ -116,13 +121,13 @@ fn flag(b: bool) -> Whole
 }
 
 // The figures of an answer, zeros for a refusal.
-fn figures_of(a: Answer) -> [Whole; 7]
+fn figures_of(a: Answer) -> [Whole; FIGURES]
     requires { ⌜ (Answer·told a .legs < 2 ^ 63) × (Answer·told a .precision < 2 ^ 63) ⌝ }
     ensures { λ r. ⌜ values r ≡ figuresOf (Answer·told a) ⌝ }
 {
     let zero = Whole { v: 0 };
     match a {
-        Answer::Refused { .. } => [zero; 7],
+        Answer::Refused { .. } => [zero; FIGURES],
         Answer::Adjusted(f) => {
             let n = Whole::of_size(f.legs as u64);
             let w = f.w;
@@ -135,8 +140,8 @@ fn figures_of(a: Answer) -> [Whole; 7]
     }
 }
 
-fn put(words: &mut [i64; 7], at: usize, z: Whole)
-    requires { ⌜ at < 7 ⌝ }
+fn put(words: &mut [i64; FIGURES], at: usize, z: Whole)
+    requires { ⌜ at < figureCount ⌝ }
     ensures { λ r. ⌜ now (words .exit) ≡ set (now (words .entry)) at (z .v) ⌝ }
 {
     let v = z.v;
@@ -144,19 +149,19 @@ fn put(words: &mut [i64; 7], at: usize, z: Whole)
 }
 
 // Amounts as the words of a list.
-fn words_of(all: [Whole; 7]) -> [i64; 7]
+fn words_of(all: [Whole; FIGURES]) -> [i64; FIGURES]
     ensures { λ r. ⌜ r ≡ values all ⌝ }
 {
-    let mut words = [0i64; 7];
+    let mut words = [0i64; FIGURES];
     let mut k: usize = 0;
-    while k < 7 {
+    while k < FIGURES {
         put(&mut words, k, all[k]);
         k += 1;
     }
     words
 }
 
-pub fn answer(a: Answer, place: &mut usize, figures: &mut [i64; 7]) -> u32
+pub fn answer(a: Answer, place: &mut usize, figures: &mut [i64; FIGURES]) -> u32
     requires { ⌜ (Answer·told a .legs < 2 ^ 63) × (Answer·told a .precision < 2 ^ 63) ⌝ }
     ensures { λ r. ⌜ TellsTraverse (Answer·told a) (now (place .exit)) (now (figures .exit)) r ⌝ }
 {

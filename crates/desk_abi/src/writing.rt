@@ -1,4 +1,5 @@
-// The writer of one record, a function for each kind: its room is tried, then its fields, at any place of the lent bytes.
+// The writer of one record, a function for each kind: its room is tested, then its fields, at any
+// place of the lent bytes.
 use crate::tell;
 use records::Record;
 use whole::Whole;
@@ -15,7 +16,8 @@ pub extern "C" fn vas_write_row(
     place: &mut usize,
     next: &mut usize,
 ) -> u32
-    ensures { λ r. ⌜ Writes (Row minute factor) (now (out .entry)) at (now (out .exit)) (now (place .exit)) (now (next .exit)) r ⌝ }
+    ensures { λ r. ⌜ Writes (Row minute factor) (now (out .entry)) at (now (out .exit))
+        (now (place .exit)) (now (next .exit)) r ⌝ }
 {
     tell::written(
         writer::write(out, at, Record::Row { minute, factor }),
@@ -34,7 +36,9 @@ pub extern "C" fn vas_write_project(
     place: &mut usize,
     next: &mut usize,
 ) -> u32
-    ensures { λ r. ⌜ Writes (Project latitude (record { v = elevation })) (now (out .entry)) at (now (out .exit)) (now (place .exit)) (now (next .exit)) r ⌝ }
+    ensures { λ r. ⌜ Writes (Project latitude (record { v = elevation }))
+        (now (out .entry)) at (now (out .exit))
+        (now (place .exit)) (now (next .exit)) r ⌝ }
 {
     tell::written(
         writer::write(
@@ -61,7 +65,8 @@ pub extern "C" fn vas_write_start(
     place: &mut usize,
     next: &mut usize,
 ) -> u32
-    ensures { λ r. ⌜ Writes (Start northing easting mark) (now (out .entry)) at (now (out .exit)) (now (place .exit)) (now (next .exit)) r ⌝ }
+    ensures { λ r. ⌜ Writes (Start northing easting mark) (now (out .entry)) at (now (out .exit))
+        (now (place .exit)) (now (next .exit)) r ⌝ }
 {
     tell::written(
         writer::write(
@@ -88,7 +93,8 @@ pub extern "C" fn vas_write_leg(
     place: &mut usize,
     next: &mut usize,
 ) -> u32
-    ensures { λ r. ⌜ Writes (Leg angle distance) (now (out .entry)) at (now (out .exit)) (now (place .exit)) (now (next .exit)) r ⌝ }
+    ensures { λ r. ⌜ Writes (Leg angle distance) (now (out .entry)) at (now (out .exit))
+        (now (place .exit)) (now (next .exit)) r ⌝ }
 {
     tell::written(
         writer::write(out, at, Record::Leg { angle, distance }),
@@ -109,7 +115,9 @@ pub extern "C" fn vas_write_close(
     place: &mut usize,
     next: &mut usize,
 ) -> u32
-    ensures { λ r. ⌜ Writes (Close angle northing easting mark) (now (out .entry)) at (now (out .exit)) (now (place .exit)) (now (next .exit)) r ⌝ }
+    ensures { λ r. ⌜ Writes (Close angle northing easting mark)
+        (now (out .entry)) at (now (out .exit))
+        (now (place .exit)) (now (next .exit)) r ⌝ }
 {
     tell::written(
         writer::write(

@@ -1,4 +1,4 @@
-// The fields of a line, one behind the other. What is read last carries the first fault on: behind
+// The fields of a line, one after the other. What is read last carries the first fault on: after
 // a fault nothing more is read.
 use crate::Fault;
 use crate::Item;
@@ -9,7 +9,7 @@ use crate::units;
 use minutes::quadrant::TENTHS_IN_MINUTE;
 ghost use Prim.Native.Nat.{_<_};
 
-// The amount read last, in units of its last decimal, the place behind it, and the first fault.
+// The amount read last, in units of its last decimal, the place after it, and the first fault.
 pub struct Amount {
     pub value: u32,
     pub at: usize,

@@ -1,4 +1,4 @@
-// One line of the notes: its word, its fields, and nothing behind them.
+// One line of the notes: its word, its fields, and nothing after them.
 use crate::Fault;
 use crate::Item;
 use crate::Word;
@@ -39,7 +39,7 @@ pub fn word_at(text: &[u8], from: usize) -> Word {
     Word::Other
 }
 
-// The line, once its last field is read: behind that nothing may stand.
+// The line, once its last field is read: after that nothing may stand.
 fn ended(text: &[u8], record: Record, last: Amount) -> Line {
     let fault = last.fault;
     if fields::is_fault(fault) {

@@ -1,4 +1,4 @@
-// A number as it is written: digits, and behind a point the decimals, of which fewer than the field
+// A number as it is written: digits, and after a point the decimals, of which fewer than the field
 // has may be given and never more.
 ghost use Prim.Native.Nat.{_<_};
 use crate::scan;
@@ -13,8 +13,8 @@ const WIDEST: u32 = 4_294_967_295;
 // The largest u32, as wide as the values that are compared with it.
 const WIDE_WIDEST: u64 = WIDEST as u64;
 
-// The digits from a place on, behind those of a value before: the value of all, and the place
-// behind them.
+// The digits from a place on, after those of a value before: the value of all, and the place after
+// them.
 pub struct Digits {
     pub value: u64,
     pub at: usize,

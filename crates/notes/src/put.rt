@@ -1,5 +1,5 @@
 // Text put into lent bytes, from a place on, by the proved writers of `text`: each answers the
-// place behind it. What has no room is left out, and never put in part.
+// place after it. What has no room is left out, and never put in part.
 ghost use Prim.Native.Nat.{_<_};
 
 pub fn bytes(out: &mut [u8], place: usize, what: &[u8]) -> usize {
@@ -24,7 +24,7 @@ pub fn number(out: &mut [u8], place: usize, value: u64) -> usize {
     place
 }
 
-// The last digits of a value, so many, with zeros in front.
+// The last `count` digits of a value, with zeros in front.
 pub fn padded(out: &mut [u8], place: usize, value: u64, count: usize) -> usize {
     if place <= out.len() {
         if count <= out.len() - place {

@@ -51,7 +51,7 @@ pub fn skip_blanks(text: &[u8], from: usize) -> usize {
     at
 }
 
-// The place behind the word that starts at a place.
+// The place after the word that starts at a place.
 pub fn word_end(text: &[u8], from: usize) -> usize {
     let mut at = from;
     while at < text.len() && in_word(text, at) {
