@@ -17,6 +17,7 @@ use Rattle.tape.specs.Tape.{Step, Next, Stop, rowNext, projectNext, firs
 use Rattle.tape.specs.Passing.{InLine}
 use Rattle.tape.specs.declared.State.{State}
 use Rattle.whole.proofs.Branch.{by-test, either, left}
+use Rattle.tape.proofs.Picks.{leg-apart}
 use Rattle.tape.proofs.Walk.{no, passed}
 
 pub stopped : {A : Type 0} {u : State} {n : ℕ} → Next u ≡ Stop n → A
@@ -45,10 +46,6 @@ pub data Came (st : State) (k : ℕ) (vs : List ℤ) (u : State) : Type 0 where
   close : k ≡ closeKind → st .phase ≡ afterLeg → u ≡ inPhase closed st → Came st k vs u
 
 module _ (st : State) (k : ℕ) where
-  -- a kind that is no leg is another than a leg's
-  apart : isLeg k ≡ true → (n : ℕ) → isLeg n ≡ false → eqb k n ≡ false
-  apart t n f = ne-eqb k n (λ e. no (rw (e, f) at t))
-
   row-room : k ≡ rowKind → eqb (roomOf st k) 0 ≡ true → st .rows < mostRows
   unfolding roomOf
   row-room e r =
@@ -58,7 +55,7 @@ module _ (st : State) (k : ℕ) where
   unfolding roomOf
   leg-room t r =
       ltb-true _ _ (left (ltb (st .legs) mostLegs) 6 (omega arith)
-      (eqb-true _ 0 (rw (apart t rowKind refl, t) at r)))
+      (eqb-true _ 0 (rw (leg-apart k rowKind t refl, t) at r)))
 
   pub due : mayCome st k ≡ true → eqb (roomOf st k) 0 ≡ true → Due st k
   unfolding mayCome
@@ -103,7 +100,7 @@ module _ (st : State) (k : ℕ) where
         (rw e at n)
     came-due (start e p) n = let f = rw e at n in start e p cc
     came-due (leg t p low) n =
-        let a = apart t in
+        let a : (m : ℕ) → isLeg m ≡ false → eqb k m ≡ false = λ m f. leg-apart k m t f in
         let f = rw (a rowKind refl, a projectKind refl, a startKind refl, t) at n in
         leg t p low cc
     came-due (close e p) n = let f = rw e at n in close e p cc

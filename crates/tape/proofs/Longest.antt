@@ -11,10 +11,9 @@ use mathlib.Core.Bool.{true, cond, _||_}
 use lib.Dec.{eqb}
 use lib.IntN.{ℤ}
 use lib.ListN.{length, length-append, List·getD-append}
-use borrow.Author.Tests.{lt-ltb, eqb-true}
+use borrow.Author.Tests.{lt-ltb}
 use Rattle.records.specs.Bytes.{Width, two, four, size, num}
 use Rattle.records.specs.Record.{Field, table, fieldsOf, total, numbers, numbersOf, bodyOf}
-use Rattle.records.specs.Record.{legKind}
 use Rattle.answer.specs.Limit.{mostLegs}
 use Rattle.tape.specs.Tape.{mostRows, atRows, afterProject, lineBegun, afterLeg}
 use Rattle.tape.specs.Tape.{Step, Next, Stop, isLeg, mayCome, roomOf, takeOf, judge, stepOf}
@@ -26,29 +25,37 @@ use Rattle.tape.specs.declared.Reading.the-variants.{Refused, Reads}
 use Rattle.whole.proofs.Branch.{by-test}
 use Rattle.tape.proofs.Coming.{Due, Came, due, came}
 use Rattle.tape.proofs.Coming as by
+use Rattle.tape.proofs.Picks.{by-leg}
+
+-- the most bytes of a leg, of all from the first leg on, and of a tape
+abbrev legBytes : ℕ
+legBytes = 9
+
+abbrev lineBytes : ℕ
+lineBytes = legBytes * mostLegs + 17
 
 abbrev pub longest : ℕ
-longest = 4811
+longest = 7 * mostRows + (5 + (13 + lineBytes))
 
--- ---- the most bytes that can still be taken: 611 from the project on, 606 from the start on
+-- ---- the most bytes that can still be taken
 unfoldable aheadIn : ℕ → State → ℕ
 aheadIn phase st =
-    cond (eqb phase atRows) (7 * (mostRows - st .rows) + 611)
-    (cond (eqb phase afterProject) 606
-    (cond (eqb phase lineBegun || eqb phase afterLeg) (9 * (mostLegs - st .legs) + 17)
+    cond (eqb phase atRows) (7 * (mostRows - st .rows) + (5 + (13 + lineBytes)))
+    (cond (eqb phase afterProject) (13 + lineBytes)
+    (cond (eqb phase lineBegun || eqb phase afterLeg) (legBytes * (mostLegs - st .legs) + 17)
     0))
 
 abbrev ahead : State → ℕ
 ahead st = aheadIn (st .phase) st
 
 module _ (st : State) (k : ℕ) where
-  line-ahead : InLine st → ahead st ≡ 9 * (mostLegs - st .legs) + 17
+  line-ahead : InLine st → ahead st ≡ legBytes * (mostLegs - st .legs) + 17
   unfolding aheadIn
   line-ahead = ⊎-elim (λ p. rw p) (λ p. rw p)
 
-  leg-body : isLeg k ≡ true → bodyOf k ≤ 8
+  leg-body : isLeg k ≡ true → bodyOf k < legBytes
   unfolding bodyOf fieldsOf table
-  leg-body t = rw (eqb-true k legKind t) (omega arith)
+  leg-body t = by-leg (λ k. bodyOf k < legBytes) (omega arith) k t
 
   -- a record that may come and has room is among them
   due-ahead : Due st k → bodyOf k < ahead st

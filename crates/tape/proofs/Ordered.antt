@@ -9,8 +9,8 @@ use mathlib.Core.List.{List, [], _∷_}
 use lib.Dec.{eqb}
 use lib.IntN.{ℤ}
 use lib.ListN.{length}
-use borrow.Author.Tests.{eqb-true, eq-eqb}
-use Rattle.records.specs.Record.{Rec, rowKind, projectKind, startKind, legKind, closeKind}
+use borrow.Author.Tests.{eq-eqb}
+use Rattle.records.specs.Record.{Rec, rowKind, projectKind, startKind, closeKind}
 use Rattle.tape.specs.Tape.{atRows, afterProject, lineBegun, afterLeg, closed, isLeg}
 use Rattle.tape.specs.Tape.{inPhase, withRow, firstOf, start, recordsOf}
 use Rattle.tape.specs.Fields.{number, pick, only, DoesRead}
@@ -19,7 +19,7 @@ use Rattle.tape.specs.Passing.{InLine}
 use Rattle.tape.specs.declared.State.{State}
 use Rattle.tape.proofs.Coming.{In, Came, row, project, start as begins, leg as a-leg, close}
 use Rattle.tape.proofs.Coming.{came}
-use Rattle.tape.proofs.Picks.{pick-yes, skips, only-first}
+use Rattle.tape.proofs.Picks.{pick-yes, pick-no, apart-leg, skips, only-first}
 use Rattle.tape.proofs.Round.{lawful}
 use Rattle.tape.proofs.Rows.{Runs, done, more, runs}
 use Rattle.tape.proofs.Walk.{no}
@@ -152,7 +152,7 @@ pub no-rows : {rs : List Rec} → Legs rs → length (pick (eqb rowKind) rs) ≡
 unfolding pick
 no-rows (last r e) = rw e
 no-rows (leg r {rs} e l) =
-    rw (skips (eqb rowKind) legKind r rs (eqb-true (r .kind) legKind e) refl) (no-rows l)
+    rw (pick-no (eqb rowKind) r rs (apart-leg (r .kind) rowKind e refl)) (no-rows l)
 
 pub record Ordered (st : State) (rs : List Rec) (end : State) : Type 0 where
   pub order : Order rs

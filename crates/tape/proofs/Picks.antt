@@ -6,11 +6,12 @@ use mathlib.Core.Bool.{Bool, true, false}
 use mathlib.Core.List.{List, [], _∷_}
 use lib.Dec.{eqb}
 use lib.ListN.{length, getD}
-use borrow.Author.Tests.{eq-eqb}
-use Rattle.records.specs.Record.{Rec, closeKind, bodyOf, goodOf}
+use borrow.Author.Tests.{eqb-true, eq-eqb, ne-eqb}
+use Rattle.records.specs.Record.{Rec, legKind, closeKind, bodyOf, goodOf}
 use Rattle.tape.specs.Tape.{isLeg}
 use Rattle.tape.specs.Fields.{pick, none, only, placeOf, turns}
 use Rattle.tape.specs.Legs.{Good}
+use Rattle.tape.proofs.Walk.{no}
 
 module _ (p : ℕ → Bool) (r : Rec) (rs : List Rec) where
   pub pick-yes : p (r .kind) ≡ true → pick p (r ∷ rs) ≡ r ∷ pick p rs
@@ -43,7 +44,20 @@ module _ (p : ℕ → Bool) (k : ℕ) (r : Rec) (rs : List Rec) (is : r .kind �
 pub only-first : (k : ℕ) (r : Rec) (rs : List Rec) → r .kind ≡ k → only k (r ∷ rs) ≡ r
 only-first k r rs e = rw (pick-yes (eqb k) r rs (eq-eqb k (r .kind) (sym e)))
 
--- ---- legs turn, and so does the close, which is no leg
+-- ---- the kinds that are legs. What holds of each of them holds of every leg: the one law that
+-- names them all
+pub by-leg : (P : ℕ → Type 0) → P legKind → (k : ℕ) → isLeg k ≡ true → P k
+by-leg P h k t = rw (eqb-true k legKind t) h
+
+-- and a kind that is no leg is another than a leg's
+module _ (k n : ℕ) (t : isLeg k ≡ true) (f : isLeg n ≡ false) where
+  pub leg-apart : eqb k n ≡ false
+  leg-apart = ne-eqb k n (λ e. no (rw (e, f) at t))
+
+  pub apart-leg : eqb n k ≡ false
+  apart-leg = ne-eqb n k (λ e. no (rw (← e, f) at t))
+
+-- ---- legs turn, and so does the close
 pub leg-turns : (k : ℕ) → isLeg k ≡ true → turns k ≡ true
 leg-turns k e = rw e
 

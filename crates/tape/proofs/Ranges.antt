@@ -15,7 +15,7 @@ use borrow.Author.Tests.{eqb-true, eq-eqb}
 use Rattle.whole.specs.Order.{_≤ᶻ_}
 use Rattle.whole.proofs.Branch.{by-test, either}
 use Rattle.whole.proofs.Diff.{int}
-use Rattle.records.specs.Record.{Field, Rec, rowKind, projectKind, startKind, legKind, closeKind}
+use Rattle.records.specs.Record.{Field, Rec, rec, rowKind, projectKind, startKind, legKind, closeKind}
 use Rattle.records.specs.Record.{fieldsOf, table, inRanges, goodOf}
 use Rattle.tape.specs.Tape.{isLeg, start, recordsOf}
 use Rattle.tape.specs.Fields.{Fields, number, pick, none, only, turns, angleOf, distanceOf}
@@ -24,7 +24,7 @@ use Rattle.tape.specs.Fields.{fieldsOf as named}
 use Rattle.tape.specs.Legs.{Good, Legs, last, leg, Order, row, opens}
 use Rattle.tape.proofs.Legs.{order-long}
 use Rattle.tape.proofs.Ordered.{order-of}
-use Rattle.tape.proofs.Picks.{pick-yes, pick-no, Picked, picked-at}
+use Rattle.tape.proofs.Picks.{by-leg, pick-yes, pick-no, Picked, picked-at}
 use Rattle.tape.proofs.Rest.{good-records}
 use Rattle.tape.proofs.Round.{lawful}
 use Rattle.tape.proofs.Rows.{Has, rows-mean, runs}
@@ -122,21 +122,36 @@ each (opens p s l {rs} one two is legs) =
 
 -- ---- the angle of a record that turns, the distance of a leg, and the factor of a row that is
 -- there
-angle-small : (r : Rec) → Picked turns r → angleOf r < 12960000
+-- kind by kind, for the numbers vs
+abbrev Small : ℕ → Type 0
+Small k = (vs : List ℤ) → goodOf k vs ≡ true → angleOf (rec k vs) < 12960000
+
+leg-small : Small legKind
 unfolding angleOf fieldsOf table
+leg-small vs g = omega (arith, plain _ _ _ (good-inside legKind vs g .0) .1)
+
+close-small : Small closeKind
+unfolding angleOf fieldsOf table
+close-small vs g = omega (arith, plain _ _ _ (good-inside closeKind vs g .0) .1)
+
+angle-small : (r : Rec) → Picked turns r → angleOf r < 12960000
 angle-small r t =
     either (isLeg (r .kind)) (eqb (r .kind) closeKind)
-    (λ l. let e = eqb-true (r .kind) legKind l in
-    omega (arith, plain _ _ _ (good-inside legKind (r .values) (rw e at (t .good)) .0) .1))
-    (λ c. let e = eqb-true (r .kind) closeKind c in
-    omega (arith, plain _ _ _ (good-inside closeKind (r .values) (rw e at (t .good)) .0) .1))
+    (λ l. by-leg Small leg-small (r .kind) l)
+    (λ c. rw (eqb-true (r .kind) closeKind c) close-small)
     (t .kind)
+    (r .values)
+    (t .good)
+
+abbrev Long : ℕ → Type 0
+Long k = (vs : List ℤ) → goodOf k vs ≡ true → Between 1000 20000000 (distanceOf (rec k vs))
+
+leg-long : Long legKind
+unfolding distanceOf fieldsOf table
+leg-long vs g = plain _ _ _ (good-inside legKind vs g .1 .0)
 
 distance-small : (r : Rec) → Picked isLeg r → Between 1000 20000000 (distanceOf r)
-unfolding distanceOf fieldsOf table
-distance-small r t =
-    let e = eqb-true (r .kind) legKind (t .kind) in
-    plain _ _ _ (good-inside legKind (r .values) (rw e at (t .good)) .1 .0)
+distance-small r t = by-leg Long leg-long (r .kind) (t .kind) (r .values) (t .good)
 
 scaled : (m : ℕ) (rs : List Rec) → Good rs → Has m rs → Between 9990000 10010000 (scaleOf m rs)
 unfolding scaleOf isRow fieldsOf table

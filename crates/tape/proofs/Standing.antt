@@ -9,10 +9,10 @@ use mathlib.Core.List.{List, [], _∷_}
 use lib.Dec.{eqb}
 use lib.IntN.{ℤ}
 use lib.ListN.{length}
-use borrow.Author.Tests.{eqb-true, eq-eqb, ne-eqb}
+use borrow.Author.Tests.{eq-eqb, ne-eqb}
 use Rattle.whole.specs.declared.Whole.{Whole}
 use Rattle.records.specs.Bytes.{two, four, num, meant, unsigned, twosComplement}
-use Rattle.records.specs.Record.{Rec, rowKind, projectKind, startKind, legKind, closeKind, fieldsOf}
+use Rattle.records.specs.Record.{Rec, rowKind, projectKind, startKind, closeKind, fieldsOf}
 use Rattle.records.specs.Record.{table, bodyOf}
 use Rattle.tape.specs.Tape.{atRows, closed, isLeg, start, recordsOf, readingOf, told}
 use Rattle.tape.specs.Fields.{signed, number, pick, only, placeOf, isRow, scaleOf, picked}
@@ -27,7 +27,7 @@ use Rattle.tape.specs.declared.Taken.the-variants as taken
 use Rattle.tape.proofs.Coming as by
 use Rattle.tape.proofs.Coming.{Came, came}
 use Rattle.tape.proofs.Ordered.{ordered, order-of, no-rows}
-use Rattle.tape.proofs.Picks.{pick-yes, skips, place-on, place-here, place-skips, only-first}
+use Rattle.tape.proofs.Picks.{pick-yes, pick-no, apart-leg, skips, place-on, place-here, place-skips, only-first}
 use Rattle.tape.proofs.Rest.{offset, fieldAt, whole-there, rest-start, rest-next, last-there}
 use Rattle.tape.proofs.Rest.{value-there, number-there}
 use Rattle.tape.proofs.Round.{lawful}
@@ -108,17 +108,16 @@ record Shut (tape : List ℕ) (rs : List Rec) (at : ℕ) : Type 0 where
   placed : placeOf (eqb closeKind) at rs ≡ place
 
 -- past a record of another kind
-shut-on : (tape : List ℕ) (at k : ℕ) (r : Rec) (rs : List Rec) → r .kind ≡ k
-    → eqb closeKind k ≡ false → Shut tape rs (at + 1 + bodyOf (r .kind))
-    → Shut tape (r ∷ rs) at
-shut-on tape at k r rs e f i =
+shut-on : (tape : List ℕ) (at : ℕ) (r : Rec) (rs : List Rec) → eqb closeKind (r .kind) ≡ false
+    → Shut tape rs (at + 1 + bodyOf (r .kind)) → Shut tape (r ∷ rs) at
+shut-on tape at r rs f i =
     record {
       c = i .c;
       place = i .place;
       close = i .close;
       four-is = i .four-is;
-      is-close = rw (skips (eqb closeKind) k r rs e f) (i .is-close);
-      placed = place-on (eqb closeKind) r rs at (rw e f) ∙ i .placed;
+      is-close = rw (pick-no (eqb closeKind) r rs f) (i .is-close);
+      placed = place-on (eqb closeKind) r rs at f ∙ i .placed;
     }
 
 shut-legs : (tape : List ℕ) {rs : List Rec} → Legs rs → (at : ℕ) → Rest tape at rs → Shut tape rs at
@@ -132,17 +131,16 @@ shut-legs tape (last r e) at h =
       placed = place-here (eqb closeKind) r [] at (eq-eqb closeKind (r .kind) (sym e));
     }
 shut-legs tape (leg r {rs} e l) at h =
-    shut-on tape at legKind r rs (eqb-true (r .kind) legKind e) refl
+    shut-on tape at r rs (apart-leg (r .kind) closeKind e refl)
     (shut-legs tape l _ (rest-next tape at r rs h))
 
 shut : (tape : List ℕ) {rs : List Rec} → Order rs → (at : ℕ) → Rest tape at rs → Shut tape rs at
 shut tape (a-row r {rs} e o) at h =
-    shut-on tape at rowKind r rs e refl (shut tape o _ (rest-next tape at r rs h))
+    shut-on tape at r rs (rw e) (shut tape o _ (rest-next tape at r rs h))
 shut tape (opens p s l {rs} one second is legs) at h =
     let g = rest-next tape at p (s ∷ l ∷ rs) h in
     let line = shut-legs tape (leg l is legs) _ (rest-next tape _ s (l ∷ rs) g) in
-    shut-on tape at projectKind p (s ∷ l ∷ rs) one refl
-    (shut-on tape _ startKind s (l ∷ rs) second refl line)
+    shut-on tape at p (s ∷ l ∷ rs) (rw one) (shut-on tape _ s (l ∷ rs) (rw second) line)
 
 -- ---- the row of a latitude is as many rows on as its minute is above the first. After the project
 -- no row comes
