@@ -1,28 +1,26 @@
 -- The walk along the legs of a tape that reads. What stands at the place of leg k is the leg, or
 -- the close after the last; its angle and distance are the fields' own, and the next leg stands
 -- where the sight says. Callers know no other law of places.
-use Prim.Native.Nat.{ℕ, zero, suc, _+_, _≤_, _<_}
+use Prim.Native.Nat.{ℕ, zero, suc, _+_, _<_}
 use native.Mathlib.Omega.{arith}
 use native.Mathlib.Nat.{add-zero}
 use mathlib.Core.Path.{_≡_, refl, sym, _∙_, ap}
 use mathlib.Core.Bool.{true, false}
-use mathlib.Core.Logic.{_⊎_, inl, inr, ⊎-elim}
 use mathlib.Core.List.{List, [], _∷_}
 use lib.ListN.{length, getD, drop, length-drop, List·getD-map}
 use lib.Seq.{getD-drop, drop-drop}
-use borrow.Author.Tests.{le-leb, eqb-true}
-use Rattle.records.specs.Bytes.{four, num}
-use Rattle.records.specs.Record.{Rec, rowKind, projectKind, startKind, legKind, closeKind, fieldsOf}
-use Rattle.records.specs.Record.{table, bodyOf}
+use borrow.Author.Tests.{le-leb}
+use Rattle.records.specs.Record.{Rec, rowKind, projectKind, startKind}
+use Rattle.records.specs.Record.{bodyOf}
 use Rattle.tape.specs.Tape.{isLeg, recordsOf}
 use Rattle.tape.specs.Fields.{pick, none, placeOf, turns, angleOf, distanceOf, picked}
 use Rattle.tape.specs.Fields.{AllBytes, DoesRead}
 use Rattle.tape.specs.Fields.{fieldsOf as named}
-use Rattle.tape.specs.Legs.{sightAt, Rest, Legs, last, leg, Order, row, opens, LegAt}
+use Rattle.tape.specs.Legs.{sightOf, sightAt, Rest, Legs, last, leg, Order, row, opens, LegAt}
 use Rattle.tape.proofs.Ordered.{order-of}
 use Rattle.tape.proofs.Picks.{pick-yes, pick-no, skips, place-on, place-here, leg-turns}
 use Rattle.tape.proofs.Picks.{close-turns}
-use Rattle.tape.proofs.Rest.{kind-there, whole-there, rest-start, rest-next, number-there}
+use Rattle.tape.proofs.Rest.{kind-there, whole-there, numbers-there, rest-start, rest-next}
 
 -- ---- the order: as many records turn as there are legs, and one more; the first of them are the
 -- legs
@@ -78,7 +76,7 @@ record Front (tape : List ℕ) (k at : ℕ) : Type 0 where
   rs : List Rec
   rest : Rest tape at (r ∷ rs)
   is : getD (pick turns (recordsOf tape)) k none ≡ r
-  kind : (isLeg (r .kind) ≡ true) ⊎ (r .kind ≡ closeKind)
+  turning : turns (r .kind) ≡ true
 
 module _ (tape : List ℕ) (k at : ℕ) where
   head-is : {r : Rec} {rs : List Rec} → r ∷ rs ≡ drop k (pick turns (recordsOf tape))
@@ -88,63 +86,34 @@ module _ (tape : List ℕ) (k at : ℕ) where
   front-of : {rs : List Rec} → Legs rs → Rest tape at rs
       → pick turns rs ≡ drop k (pick turns (recordsOf tape)) → Front tape k at
   front-of (last r e) h less =
-      record {
-        r = r;
-        rs = [];
-        rest = h;
-        is = head-is (rw (pick-yes turns r [] (close-turns (r .kind) e)) at less);
-        kind = inr e;
-      }
+      let t = close-turns (r .kind) e in
+      let is = head-is (rw (pick-yes turns r [] t) at less) in
+      record { r = r; rs = []; rest = h; is = is; turning = t }
   front-of (leg r {rs} e l) h less =
-      record {
-        r = r;
-        rs = rs;
-        rest = h;
-        is = head-is (rw (pick-yes turns r rs (leg-turns (r .kind) e)) at less);
-        kind = inl e;
-      }
+      let t = leg-turns (r .kind) e in
+      let is = head-is (rw (pick-yes turns r rs t) at less) in
+      record { r = r; rs = rs; rest = h; is = is; turning = t }
 
   front : LegAt tape k at → Front tape k at
   front h = front-of (h .legs) (h .rest) (h .less)
 
--- a leg, or the close, has bytes enough for a sight, and its numbers are the sight's
+-- what is sighted there is the record's own, whatever its kind
 module _ (tape : List ℕ) (at : ℕ) (r : Rec) (rs : List Rec) (h : Rest tape at (r ∷ rs)) where
-  angle-of : (k : ℕ) → r .kind ≡ k → 8 ≤ bodyOf k → num four tape (at + 1) ≡ angleOf r
-      → sightAt tape at .angle ≡ angleOf r
+  sight-is : sightAt tape at ≡ sightOf r at
   unfolding sightAt
-  angle-of k e long i =
-      let whole = rw e at (whole-there tape at r rs h) in
-      let room : at + 1 + bodyOf legKind ≤ length tape = unfold bodyOf fieldsOf table in (omega arith) in
-      rw (le-leb (at + 1 + bodyOf legKind) (length tape) room) i
+  sight-is =
+      let whole = le-leb (at + 1 + bodyOf (r .kind)) (length tape) (whole-there tape at r rs h) in
+      rw (kind-there tape at r rs h, numbers-there tape at r rs h, whole)
 
-  angle-is : (isLeg (r .kind) ≡ true) ⊎ (r .kind ≡ closeKind) → sightAt tape at .angle ≡ angleOf r
-  unfolding angleOf bodyOf fieldsOf table
-  angle-is =
-      ⊎-elim
-      (λ (t : isLeg (r .kind) ≡ true). let e = eqb-true (r .kind) legKind t in
-      angle-of legKind e (omega arith)
-      (sym (number-there tape at r rs h legKind 0 (at + 1) e (omega arith) refl (omega arith))))
-      (λ (e : r .kind ≡ closeKind).
-      angle-of closeKind e (omega arith)
-      (sym (number-there tape at r rs h closeKind 0 (at + 1) e (omega arith) refl (omega arith))))
+  angle-is : turns (r .kind) ≡ true → sightAt tape at .angle ≡ angleOf r
+  angle-is t = rw (sight-is, t)
 
   module _ (t : isLeg (r .kind) ≡ true) where
-    is-leg : r .kind ≡ legKind
-    is-leg = eqb-true (r .kind) legKind t
-
-    fits : at + 1 + bodyOf legKind ≤ length tape
-    fits = rw is-leg at (whole-there tape at r rs h)
-
     distance-is : sightAt tape at .distance ≡ distanceOf r
-    unfolding sightAt distanceOf fieldsOf table
-    distance-is =
-        rw (le-leb (at + 1 + bodyOf legKind) (length tape) fits)
-        (sym
-        (number-there tape at r rs h legKind 1 (at + 5) is-leg (omega arith) refl (omega arith)))
+    distance-is = rw (sight-is, t)
 
     next-is : sightAt tape at .next ≡ at + 1 + bodyOf (r .kind)
-    unfolding sightAt
-    next-is = rw (le-leb (at + 1 + bodyOf legKind) (length tape) fits, kind-there tape at r rs h, t)
+    next-is = rw (sight-is, t)
 
 -- ---- leg 0 stands where the line begins
 first-at : (tape : List ℕ) {rs : List Rec} → Order rs → (at : ℕ) → Rest tape at rs
@@ -183,7 +152,7 @@ pub leg-angle : (tape : List ℕ) (k at : ℕ) → LegAt tape k at
 unfolding picked angleOf
 leg-angle tape k at h =
     let f = front tape k at h in
-    angle-is tape at (f .r) (f .rs) (f .rest) (f .kind)
+    angle-is tape at (f .r) (f .rs) (f .rest) (f .turning)
     ∙ sym (List·getD-map angleOf (pick turns (recordsOf tape)) k none ∙ ap angleOf (f .is))
 
 -- ---- the next leg, and the distance, where there is one more

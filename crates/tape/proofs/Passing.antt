@@ -11,28 +11,21 @@ use mathlib.Core.Bool.{Bool, true, false, cond, _||_, or-true}
 use lib.Dec.{eqb, ltb}
 use lib.IntN.{ℤ, pos}
 use lib.ListN.{length, getD, drop, length-drop, List·getD-eq-default}
-use borrow.Author.Tests.{lt-ltb, le-ltb, eq-eqb, ne-eqb, eqb-true, le-leb, lt-leb}
+use borrow.Author.Tests.{lt-ltb, le-ltb, eq-eqb, ne-eqb, le-leb, lt-leb}
 use Rattle.records.specs.Bytes.{two, four, num, meant, twosComplement}
 use Rattle.records.specs.Record.{bodyOf, numbersOf, fieldsOf, table, goodOf}
 use Rattle.tape.specs.Tape.{afterProject, lineBegun, afterLeg, closed, isLeg, inPhase}
 use Rattle.tape.specs.Tape.{withRow, withLeg, Step, Next, Stop, mayCome, roomOf, rowNext}
 use Rattle.tape.specs.Tape.{projectNext, afterOf, takeOf, judge, stepOf}
-use Rattle.tape.specs.Passing.{cursor, onward, pastRow, pastLeg, InLine, Passes}
+use Rattle.tape.specs.Passing.{cursor, onward, pastRow, pastLeg, InLine, Passes, goodThere}
 use Rattle.tape.specs.declared.State.{State}
 use Rattle.tape.specs.declared.Cursor.{Cursor}
 use Rattle.tape.specs.declared.Reading.the-variants.{Refused}
+use Rattle.tape.proofs.Picks.{by-leg, leg-apart}
 use Rattle.tape.proofs.Numbers.{head-drop, num-drop}
-use Rattle.tape.proofs.Walk.{walk-stop, next-whole, walk-next, walk-open}
+use Rattle.tape.proofs.Walk.{no as never, walk-stop, next-whole, walk-next, walk-open}
 
--- a byte that is not 0 stands within the tape
-inside : (i : ℕ) (s : List ℕ) {k : ℕ} → getD s i 0 ≡ k → 0 < k → i < length s
-inside i s {k} e h =
-    elim (decLt i (length s)) [
-      | yes low ↦ low
-      | no high ↦ absurd (omega (arith, List·getD-eq-default s 0 {n = i} (omega arith)))
-    ]
-
--- and past its end none is a leg
+-- past the end of the tape none is a leg
 pub none-past : (i : ℕ) (s : List ℕ) → length s ≤ i → false ≡ isLeg (getD s i 0)
 none-past i s high = rw (List·getD-eq-default s 0 {n = i} high)
 
@@ -310,62 +303,68 @@ module _ (s : List ℕ) (c : Cursor) where
             taken 2 start-due (inPhase lineBegun st) (at + 13) _ g fits start-numbers i t refl
             (omega arith)
 
-  -- ---- a leg
-  pub leg-comes : InLine st → mayCome st 3 ≡ true
-  unfolding mayCome
-  leg-comes = ⊎-elim (λ (p : st .phase ≡ lineBegun). rw p) (λ (p : st .phase ≡ afterLeg). rw p)
+  -- ---- a leg, of any kind
+  abbrev kind : ℕ
+  kind = getD s at 0
 
-  leg-is : isLeg (getD s at 0) ≡ true → getD s at 0 ≡ 3
-  leg-is here = eqb-true (getD s at 0) 3 here
-
-  module _ (here : isLeg (getD s at 0) ≡ true) (p : InLine st) where
+  module _ (here : isLeg kind ≡ true) (p : InLine st) where
     pub leg-low : at < length s
-    leg-low = inside at s (leg-is here) (omega arith)
+    leg-low =
+        elim (decLt at (length s)) [
+          | yes low ↦ low
+          | no high ↦ never (none-past at s (omega arith) ∙ here)
+        ]
 
     pub leg-within : at ≤ length s
     leg-within = omega (arith, leg-low)
+
+    leg-comes : mayCome st kind ≡ true
+    unfolding mayCome
+    leg-comes =
+        ⊎-elim (λ (q : st .phase ≡ lineBegun). rw (q, here)) (λ (q : st .phase ≡ afterLeg). rw (q, here)) p
 
     pub leg-full : 64 ≤ st .legs → Passes s c 6 (pastLeg s c)
     unfolding roomOf
     leg-full h =
         fails 6 (pastLeg s c) leg-low (omega arith)
-        (one-too-many 3 (leg-is here) (leg-comes p) 6 (rw (le-ltb (st .legs) 64 h)) (omega arith))
+        (one-too-many kind refl leg-comes 6 (rw (leg-apart kind 5 here refl, here, le-ltb (st .legs) 64 h)) (omega arith))
 
     module _ (few : st .legs < 64) where
-      leg-due : Due 3
+      leg-due : Due kind
       unfolding roomOf
       leg-due =
           record {
             low = leg-low;
-            is = leg-is here;
-            comes = leg-comes p;
-            room = rw (lt-ltb (st .legs) 64 few);
+            is = refl;
+            comes = leg-comes;
+            room = rw (leg-apart kind 5 here refl, here, lt-ltb (st .legs) 64 few);
           }
 
-      pub leg-short : length s - at ≤ 8 → Passes s c 2 (pastLeg s c)
-      unfolding bodyOf fieldsOf table
-      leg-short h = short 3 leg-due (withLeg st) _ h
+      leg-after : (vs : List ℤ) → afterOf st kind vs ≡ Next (withLeg st)
+      unfolding afterOf
+      leg-after vs =
+          rw (
+            leg-apart kind 5 here refl,
+            leg-apart kind 1 here refl,
+            leg-apart kind 2 here refl,
+            here,
+          )
 
-      module _ (fits : 8 < length s - at) (angle distance : ℕ) (g : Bool)
-          (a : angle ≡ num four s (at + 1)) (d : distance ≡ num four s (at + 5))
-          (e : g ≡ goodOf 3 (pos angle ∷ pos distance ∷ [])) where
-        leg-numbers : numbersOf 3 (drop at s) ≡ pos angle ∷ pos distance ∷ []
-        unfolding numbersOf fieldsOf table meant
-        leg-numbers = rw (num-drop four at s 1, num-drop four at s 5, ← a, ← d)
+      module _ (n : ℕ) (long : n ≡ bodyOf kind) where
+        pub leg-short : length s - at ≤ n → Passes s c 2 (pastLeg s c)
+        leg-short h = short kind leg-due (withLeg st) _ (rw (← long) h)
 
-        pub leg-passes : g ≡ true → Passes s c 0 (pastLeg s c)
-        unfolding afterOf bodyOf fieldsOf table
-        leg-passes t =
-            taken 3 leg-due (withLeg st) _ _ g (omega arith) leg-numbers e t refl (rw (leg-is here))
+        module _ (fits : n < length s - at) (g : Bool) (e : g ≡ goodThere s at) where
+          pub leg-passes : g ≡ true → Passes s c 0 (pastLeg s c)
+          leg-passes t =
+              taken kind leg-due (withLeg st) _ _ g (rw (← long) fits) refl e t (leg-after _) refl
 
-        pub leg-bad : g ≡ false → Passes s c 4 (pastLeg s c)
-        unfolding bodyOf fieldsOf table
-        leg-bad t = bad 3 leg-due (withLeg st) _ _ g (omega arith) leg-numbers e t
+          pub leg-bad : g ≡ false → Passes s c 4 (pastLeg s c)
+          leg-bad t = bad kind leg-due (withLeg st) _ _ g (rw (← long) fits) refl e t
 
   -- the cursor after it, as the code makes it
-  pub past-leg-is : isLeg (getD s at 0) ≡ true → cursor (at + 9) (withLeg st) ≡ pastLeg s c
-  unfolding bodyOf fieldsOf table
-  past-leg-is here = let e : at + 9 ≡ at + 1 + 8 = omega arith in rw (leg-is here, e)
+  pub past-leg-is : (n : ℕ) → n ≡ bodyOf kind → cursor (at + 1 + n) (withLeg st) ≡ pastLeg s c
+  past-leg-is n e = rw e
 
   -- ---- the close
   module _ (n : ℕ) (e : n ≡ cond (ltb at (length s)) (cond (eqb (getD s at 0) 4) 0 3) 2) where
@@ -427,3 +426,16 @@ module _ (s : List ℕ) (c : Cursor) where
           close-passes t =
               taken 4 close-due (inPhase closed st) (at + 17) _ g fits close-numbers i t refl
               (omega arith)
+
+-- ---- the numbers of a leg, kind by kind, as the code tests them
+module _ (s : List ℕ) (at : ℕ) (g : Bool) where
+  pub leg-there : (angle distance : ℕ) → getD s at 0 ≡ 3 → angle ≡ num four s (at + 1)
+      → distance ≡ num four s (at + 5)
+      → g ≡ goodOf 3 (pos angle ∷ pos distance ∷ []) → g ≡ goodThere s at
+  unfolding numbersOf fieldsOf table meant
+  leg-there angle distance is a d e =
+      e ∙ rw (is, num-drop four at s 1, num-drop four at s 5, ← a, ← d)
+
+  -- no other kind is a leg
+  pub none-there : isLeg (getD s at 0) ≡ true → (getD s at 0 ≡ 3 → ⊥) → g ≡ goodThere s at
+  none-there is f = absurd (by-leg (λ k. (k ≡ 3 → ⊥) → ⊥) (λ f. f refl) (getD s at 0) is f)

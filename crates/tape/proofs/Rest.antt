@@ -72,7 +72,7 @@ module _ (tape : List ℕ) (at : ℕ) (r : Rec) (rs : List Rec) (h : Rest tape a
         good = h .good .1;
       }
 
-  numbers-there : numbersOf (r .kind) (drop at tape) ≡ r .values
+  pub numbers-there : numbersOf (r .kind) (drop at tape) ≡ r .values
   numbers-there = rw front (numbers-back (r .kind) (r .values) (tapeOf rs) (h .good .0))
 
 -- the last record ends the tape

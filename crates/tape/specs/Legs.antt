@@ -6,31 +6,33 @@ use mathlib.Core.List.{List, [], _∷_}
 use Prim.Native.Nat.{ℕ, _+_}
 use lib.Dec.{leb}
 use lib.ListN.{length, getD, drop}
-use Rattle.records.specs.Bytes.{four, num}
-use Rattle.records.specs.Record.{rowKind, projectKind, startKind, legKind, closeKind}
-use Rattle.records.specs.Record.{Rec, bodyOf, goodOf}
+use Rattle.records.specs.Record.{rowKind, projectKind, startKind, closeKind}
+use Rattle.records.specs.Record.{Rec, rec, bodyOf, numbersOf, goodOf}
 use Rattle.tape.specs.Tape.{isLeg, recordsOf, tapeOf}
-use Rattle.tape.specs.Fields.{pick, turns}
+use Rattle.tape.specs.Fields.{pick, turns, angleOf, distanceOf}
 use Rattle.tape.specs.declared.Sight.{Sight}
 
 -- ---- at any place of any tape: the angle and the distance of the leg that stands there, and the
--- place of the record after it. A close has an angle, and the walk stays there; where no leg can
--- stand whole all is zero but the place
+-- place of the record after it. A close has an angle, and the walk stays there; where neither stands
+-- whole all is zero but the place
+abbrev pub recordAt : List ℕ → ℕ → Rec
+recordAt tape at = let k = getD tape at 0 in rec k (numbersOf k (drop at tape))
+
 abbrev pub noSight : ℕ → Sight
 noSight at = record { angle = 0; distance = 0; next = at }
 
-abbrev pub sightThere : List ℕ → ℕ → Sight
-sightThere tape at =
-    let kind = getD tape at 0 in
+abbrev pub sightOf : Rec → ℕ → Sight
+sightOf r at =
     record {
-      angle = num four tape (at + 1);
-      distance = num four tape (at + 5);
-      next = cond (isLeg kind) (at + 1 + bodyOf kind) at;
+      angle = cond (turns (r .kind)) (angleOf r) 0;
+      distance = cond (isLeg (r .kind)) (distanceOf r) 0;
+      next = cond (isLeg (r .kind)) (at + 1 + bodyOf (r .kind)) at;
     }
 
 unfoldable pub sightAt : List ℕ → ℕ → Sight
 sightAt tape at =
-    cond (leb (at + 1 + bodyOf legKind) (length tape)) (sightThere tape at) (noSight at)
+    let r = recordAt tape at in
+    cond (leb (at + 1 + bodyOf (r .kind)) (length tape)) (sightOf r at) (noSight at)
 
 -- ---- from a place on the tape is exactly these records, each in range
 abbrev pub Good : List Rec → Type 0

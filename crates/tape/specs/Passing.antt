@@ -1,14 +1,14 @@
 -- What the reader's private functions promise one another, each of its part of the tape: the
 -- reading of the whole is a refusal there, or the reading from the place after the part on.
 use mathlib.Core.Path.{_≡_}
-use mathlib.Core.Bool.{cond, false}
+use mathlib.Core.Bool.{Bool, cond, false}
 use mathlib.Core.Logic.{_⊎_}
 use mathlib.Core.List.{List}
 use Prim.Native.Nat.{ℕ, _+_, _≤_}
 use lib.Dec.{eqb}
 use lib.ListN.{length, getD, drop}
 use Rattle.records.specs.Bytes.{two, num}
-use Rattle.records.specs.Record.{rowKind, bodyOf}
+use Rattle.records.specs.Record.{rowKind, bodyOf, numbersOf, goodOf}
 use Rattle.tape.specs.declared.State.{State}
 use Rattle.tape.specs.declared.Cursor.{Cursor}
 use Rattle.tape.specs.declared.Passed.{Passed}
@@ -43,6 +43,10 @@ pastLeg tape c = cursor (c .at + 1 + bodyOf (getD tape (c .at) 0)) (withLeg (c .
 pub record Passes (tape : List ℕ) (c : Cursor) (n : ℕ) (after : Cursor) : Type 0 where
   pub same : onward tape c ≡ cond (eqb n 0) (onward tape after) (Refused n (c .at))
   pub within : n ≡ 0 → after .at ≤ length tape
+
+-- the numbers of the record at a place are in range
+abbrev pub goodThere : List ℕ → ℕ → Bool
+goodThere tape at = let k = getD tape at 0 in goodOf k (numbersOf k (drop at tape))
 
 -- a state in which a leg may come
 abbrev pub InLine : State → Type 0

@@ -1,14 +1,15 @@
 // The tape: the reading of a whole tape, and its fields.
+use records::CLOSE;
 use records::LEG;
-use records::LEG_BODY;
 use records::LEG_BYTES;
+use records::ranges::body_len;
 use whole::Whole;
 ghost use mathlib.Core.Path.{_≡_};
 ghost use Prim.Native.Nat.{_-_};
 ghost use lib.ListN.{length};
-ghost use Rattle.tape.specs.Tape.{readingOf, told};
+ghost use Rattle.tape.specs.Tape.{isLeg, readingOf, told};
 ghost use Rattle.tape.specs.Fields.{takenOf, toldTaken, AllBytes};
-ghost use Rattle.tape.specs.Legs.{sightAt};
+ghost use Rattle.tape.specs.Legs.{noSight, sightAt};
 
 // What has been read so far: what has come last (`phase`), how many rows and legs, and the minute
 // that the next row must have.
@@ -108,29 +109,46 @@ fn places(tape: &[u8], after: usize) -> usize
     tape.len() - after
 }
 
+// Whether a kind is one of the legs.
+fn is_leg(kind: u8) -> bool
+    ensures { λ r. ⌜ r ≡ isLeg kind ⌝ }
+{
+    kind == LEG
+}
+
+// No leg and no close, whole, stands at a place.
+fn no_sight(at: usize) -> Sight
+    ensures { λ r. ⌜ r ≡ noSight at ⌝ }
+{
+    Sight {
+        angle: 0,
+        distance: 0,
+        next: at,
+    }
+}
+
 // What stands at a place, of any tape and any place.
 pub fn sight_at(tape: &[u8], at: usize) -> Sight
     ensures { λ r. ⌜ r ≡ sightAt (now (tape .entry)) at ⌝ }
 {
-    if places(tape, LEG_BODY) <= at {
-        return Sight {
-            angle: 0,
+    if tape.len() <= at {
+        return no_sight(at);
+    }
+    let kind = tape[at];
+    if tape.len() - at <= body_len(kind) {
+        return no_sight(at);
+    }
+    match kind {
+        LEG => Sight {
+            angle: digits::four_at(tape, at + 1),
+            distance: digits::four_at(tape, at + 5),
+            next: at + LEG_BYTES,
+        },
+        CLOSE => Sight {
+            angle: digits::four_at(tape, at + 1),
             distance: 0,
             next: at,
-        };
-    }
-    let angle = digits::four_at(tape, at + 1);
-    let distance = digits::four_at(tape, at + 5);
-    if tape[at] == LEG {
-        return Sight {
-            angle,
-            distance,
-            next: at + LEG_BYTES,
-        };
-    }
-    Sight {
-        angle,
-        distance,
-        next: at,
+        },
+        _ => no_sight(at),
     }
 }

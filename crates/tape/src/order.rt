@@ -9,6 +9,7 @@ use crate::Passed;
 use crate::Reading;
 use crate::State;
 use crate::digits;
+use crate::is_leg;
 use crate::places;
 use answer::limit;
 use answer::refusal::BAD_ROWS;
@@ -21,8 +22,6 @@ use records::CLOSE;
 use records::CLOSE_BODY;
 use records::CLOSE_BYTES;
 use records::LEG;
-use records::LEG_BODY;
-use records::LEG_BYTES;
 use records::PROJECT;
 use records::PROJECT_BODY;
 use records::PROJECT_BYTES;
@@ -35,7 +34,7 @@ use records::START_BYTES;
 use records::ranges;
 ghost use mathlib.Core.Path.{_≡_};
 ghost use mathlib.Core.Bool.{cond, true, false};
-ghost use Prim.Native.Nat.{_+_, _<_, _≤_};
+ghost use Prim.Native.Nat.{_+_, _-_, _<_, _≤_};
 ghost use lib.Dec.{eqb, ltb};
 ghost use lib.ListN.{length, getD};
 ghost use Rattle.answer.specs.Limit.{mostLegs};
@@ -44,7 +43,7 @@ ghost use Rattle.records.specs.Record.{rowKind, projectKind, startKind, closeKi
 ghost use Rattle.tape.specs.Tape.{mostRows, atRows, afterProject, lineBegun, closed};
 ghost use Rattle.tape.specs.Tape.{isLeg, readingOf};
 ghost use Rattle.tape.specs.Passing.{onward, past, pastRow, pastLeg, Passes};
-ghost use Rattle.tape.specs.Passing.{InLine, Rowed, Opened, Walked};
+ghost use Rattle.tape.specs.Passing.{goodThere, InLine, Rowed, Opened, Walked};
 
 // ---- what has come last; the number 2 is kept for a record between the project and the start
 const AT_ROWS: u32 = 0;
@@ -133,7 +132,7 @@ fn leg_stands(tape: &[u8], at: usize) -> bool
     if tape.len() <= at {
         return false;
     }
-    tape[at] == LEG
+    is_leg(tape[at])
 }
 
 // ---- the cursor after a record
@@ -181,9 +180,10 @@ fn past_leg(tape: &[u8], c: Cursor) -> Cursor
     requires { ⌜ c .st .legs < mostLegs ⌝ }
     ensures { λ r. ⌜ r ≡ pastLeg (now (tape .entry)) c ⌝ }
 {
+    let at = c.at;
     let st = c.st;
     Cursor {
-        at: c.at + LEG_BYTES,
+        at: at + 1 + ranges::body_len(tape[at]),
         st: State {
             phase: AFTER_LEG,
             rows: st.rows,
@@ -268,6 +268,18 @@ fn start(tape: &[u8], c: Cursor) -> u32
     OUT_OF_RANGE
 }
 
+// Whether the numbers of the leg at a place, which is whole, are in range.
+fn leg_good(tape: &[u8], at: usize) -> bool
+    requires { ⌜ isLeg (getD (now tape) at 0) ≡ true ⌝ }
+    requires { ⌜ bodyOf (getD (now tape) at 0) < length (now tape) - at ⌝ }
+    ensures { λ r. ⌜ r ≡ goodThere (now (tape .entry)) at ⌝ }
+{
+    match tape[at] {
+        LEG => ranges::leg_good(digits::four_at(tape, at + 1), digits::four_at(tape, at + 5)),
+        _ => false,
+    }
+}
+
 // The leg that stands at the cursor.
 fn leg(tape: &[u8], c: Cursor) -> u32
     requires { ⌜ isLeg (getD (now tape) (c .at) 0) ≡ true ⌝ }
@@ -280,10 +292,10 @@ fn leg(tape: &[u8], c: Cursor) -> u32
     if MOST_LEGS <= st.legs {
         return TOO_MANY_LEGS;
     }
-    if tape.len() - at <= LEG_BODY {
+    if tape.len() - at <= ranges::body_len(tape[at]) {
         return CUT_SHORT;
     }
-    if ranges::leg_good(digits::four_at(tape, at + 1), digits::four_at(tape, at + 5)) {
+    if leg_good(tape, at) {
         return 0;
     }
     OUT_OF_RANGE

@@ -8,4 +8,5 @@ returns : tie.Need-returns
 returns c = search none-past
 
 pub leg-stands-spec : {M : Type 1} → statement M
-leg-stands-spec = tie.close (tie.spec returns (λ c. search needs) (λ c. search needs))
+leg-stands-spec =
+    tie.close (tie.spec returns (λ c. search needs) (λ c κs. search needs) (λ c. search needs))
