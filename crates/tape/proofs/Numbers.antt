@@ -6,13 +6,10 @@ use native.Mathlib.Numerals.{add-one}
 use native.Mathlib.Nat.{add-suc, add-zero}
 use mathlib.Core.Path.{_≡_, _∙_}
 use mathlib.Core.List.{List}
-use lib.ListN.{length, drop, getD}
-use lib.Dec.{T, leb}
+use lib.ListN.{drop, getD}
 use lib.IntN.{ℤ, pos, negℤ}
 use lib.Seq.{getD-drop}
-use borrow.Author.Tests.{leb-true, lt-ltb, le-ltb}
-use Rattle.whole.proofs.Branch.{T-true}
-use Rattle.records.specs.Record.{bodyOf}
+use borrow.Author.Tests.{lt-ltb, le-ltb}
 use Rattle.records.specs.Bytes.{Width, two, four, num, meant, twosComplement}
 
 pub head-drop : (n : ℕ) (l : List ℕ) → getD (drop n l) 0 0 ≡ getD l n 0
@@ -32,12 +29,6 @@ module _ (l : List ℕ) (k a b : ℕ) where
   pub num-four : a ≡ num two l k → b ≡ num two l (k + 2) → a * 65536 + b ≡ num four l k
   unfolding num
   num-four e f = let g : k + 2 ≡ suc (suc k) = omega arith in rw (e, f, g) (omega arith)
-
--- ---- of a record of kind m, which is whole
-pub four-fits : (l : List ℕ) (at n k m i : ℕ) → n ≡ bodyOf k → n < length l - at → k ≡ m
-    → T (leb (i + 4) (1 + bodyOf m)) → at + i + 4 ≤ length l
-four-fits l at n k m i e h f t =
-    omega (arith, rw f at e, leb-true (i + 4) (1 + bodyOf m) (T-true _ t))
 
 -- ---- two bytes in two's complement, as the code tells them apart
 pub meant-plain : (v : ℤ) (n m : ℕ) → v ≡ pos n → n ≡ m → n < 32768 → v ≡ meant twosComplement two m

@@ -11,7 +11,7 @@ use mathlib.Core.Bool.{Bool, true, false, cond, _||_, or-true}
 use lib.Dec.{eqb, ltb}
 use lib.IntN.{ℤ, pos}
 use lib.ListN.{length, getD, drop, length-drop, List·getD-eq-default}
-use borrow.Author.Tests.{lt-ltb, le-ltb, eq-eqb, ne-eqb, le-leb, lt-leb}
+use borrow.Author.Tests.{eqb-true, lt-ltb, le-ltb, eq-eqb, ne-eqb, le-leb, lt-leb}
 use Rattle.records.specs.Bytes.{two, four, num, meant, twosComplement}
 use Rattle.records.specs.Record.{bodyOf, numbersOf, fieldsOf, table, goodOf}
 use Rattle.tape.specs.Tape.{afterProject, lineBegun, afterLeg, closed, isLeg, inPhase}
@@ -362,9 +362,17 @@ module _ (s : List ℕ) (c : Cursor) where
           pub leg-bad : g ≡ false → Passes s c 4 (pastLeg s c)
           leg-bad t = bad kind leg-due (withLeg st) _ _ g (rw (← long) fits) refl e t
 
-  -- the cursor after it, as the code makes it
-  pub past-leg-is : (n : ℕ) → n ≡ bodyOf kind → cursor (at + 1 + n) (withLeg st) ≡ pastLeg s c
-  past-leg-is n e = rw e
+  -- its length, and the cursor after it, as the code has them
+  module _ (here : isLeg kind ≡ true) where
+    pub leg-long : 8 ≡ bodyOf kind
+    unfolding bodyOf fieldsOf table
+    leg-long = by-leg (λ k. 8 ≡ bodyOf k) refl kind here
+
+    pub leg-whole : 8 < length s - at → bodyOf kind < length s - at
+    leg-whole h = rw (← leg-long) h
+
+    pub past-leg-is : cursor (at + 9) (withLeg st) ≡ pastLeg s c
+    past-leg-is = let e : at + 9 ≡ at + 1 + 8 = omega arith in rw (← leg-long, e)
 
   -- ---- the close
   module _ (n : ℕ) (e : n ≡ cond (ltb at (length s)) (cond (eqb (getD s at 0) 4) 0 3) 2) where
@@ -427,15 +435,18 @@ module _ (s : List ℕ) (c : Cursor) where
               taken 4 close-due (inPhase closed st) (at + 17) _ g fits close-numbers i t refl
               (omega arith)
 
--- ---- the numbers of a leg, kind by kind, as the code tests them
-module _ (s : List ℕ) (at : ℕ) (g : Bool) where
-  pub leg-there : (angle distance : ℕ) → getD s at 0 ≡ 3 → angle ≡ num four s (at + 1)
-      → distance ≡ num four s (at + 5)
-      → g ≡ goodOf 3 (pos angle ∷ pos distance ∷ []) → g ≡ goodThere s at
-  unfolding numbersOf fieldsOf table meant
-  leg-there angle distance is a d e =
-      e ∙ rw (is, num-drop four at s 1, num-drop four at s 5, ← a, ← d)
+-- ---- the numbers of a leg, as the code tests them
+module _ (s : List ℕ) (at : ℕ) (here : isLeg (getD s at 0) ≡ true) where
+  pub leg-room : bodyOf (getD s at 0) < length s - at → (i : ℕ) → i ≤ 5 → at + i + 4 ≤ length s
+  unfolding bodyOf fieldsOf table
+  leg-room h i low =
+      let P : ℕ → Type 0 = λ k. bodyOf k < length s - at → 8 < length s - at in
+      let whole = by-leg P (λ x. x) (getD s at 0) here h in
+      omega arith
 
-  -- no other kind is a leg
-  pub none-there : isLeg (getD s at 0) ≡ true → (getD s at 0 ≡ 3 → ⊥) → g ≡ goodThere s at
-  none-there is f = absurd (by-leg (λ k. (k ≡ 3 → ⊥) → ⊥) (λ f. f refl) (getD s at 0) is f)
+  pub leg-there : (g : Bool) (angle distance : ℕ) → angle ≡ num four s (at + 1)
+      → distance ≡ num four s (at + 5) → g ≡ goodOf 3 (pos angle ∷ pos distance ∷ [])
+      → g ≡ goodThere s at
+  unfolding numbersOf fieldsOf table meant
+  leg-there g angle distance a d e =
+      e ∙ rw (eqb-true (getD s at 0) 3 here, num-drop four at s 1, num-drop four at s 5, ← a, ← d)

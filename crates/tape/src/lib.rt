@@ -1,15 +1,17 @@
 // The tape: the reading of a whole tape, and its fields.
 use records::CLOSE;
+use records::CLOSE_BODY;
 use records::LEG;
+use records::LEG_BODY;
 use records::LEG_BYTES;
-use records::ranges::body_len;
 use whole::Whole;
 ghost use mathlib.Core.Path.{_≡_};
-ghost use Prim.Native.Nat.{_-_};
-ghost use lib.ListN.{length};
+ghost use Prim.Native.Nat.{_+_, _-_, _≤_};
+ghost use lib.ListN.{length, getD};
+ghost use Rattle.records.specs.Record.{legKind};
 ghost use Rattle.tape.specs.Tape.{isLeg, readingOf, told};
 ghost use Rattle.tape.specs.Fields.{takenOf, toldTaken, AllBytes};
-ghost use Rattle.tape.specs.Legs.{noSight, sightAt};
+ghost use Rattle.tape.specs.Legs.{sightAt};
 
 // What has been read so far: what has come last (`phase`), how many rows and legs, and the minute
 // that the next row must have.
@@ -116,10 +118,20 @@ fn is_leg(kind: u8) -> bool
     kind == LEG
 }
 
-// No leg and no close, whole, stands at a place.
-fn no_sight(at: usize) -> Sight
-    ensures { λ r. ⌜ r ≡ noSight at ⌝ }
+// What stands at a place where no leg stands whole: the close, or nothing.
+fn closing_sight(tape: &[u8], at: usize) -> Sight
+    requires { ⌜ (getD (now tape) at 0 ≡ legKind → length (now tape) ≤ at + 8) ⌝ }
+    ensures { λ r. ⌜ r ≡ sightAt (now (tape .entry)) at ⌝ }
 {
+    if at < places(tape, CLOSE_BODY) {
+        if tape[at] == CLOSE {
+            return Sight {
+                angle: digits::four_at(tape, at + 1),
+                distance: 0,
+                next: at,
+            };
+        }
+    }
     Sight {
         angle: 0,
         distance: 0,
@@ -127,28 +139,19 @@ fn no_sight(at: usize) -> Sight
     }
 }
 
-// What stands at a place, of any tape and any place.
+// What stands at a place, of any tape and any place. Most often it is a leg.
 pub fn sight_at(tape: &[u8], at: usize) -> Sight
     ensures { λ r. ⌜ r ≡ sightAt (now (tape .entry)) at ⌝ }
 {
-    if tape.len() <= at {
-        return no_sight(at);
+    if at < places(tape, LEG_BODY) {
+        if tape[at] == LEG {
+            return Sight {
+                angle: digits::four_at(tape, at + 1),
+                distance: digits::four_at(tape, at + 5),
+                next: at + LEG_BYTES,
+            };
+        }
+        return closing_sight(tape, at);
     }
-    let kind = tape[at];
-    if tape.len() - at <= body_len(kind) {
-        return no_sight(at);
-    }
-    match kind {
-        LEG => Sight {
-            angle: digits::four_at(tape, at + 1),
-            distance: digits::four_at(tape, at + 5),
-            next: at + LEG_BYTES,
-        },
-        CLOSE => Sight {
-            angle: digits::four_at(tape, at + 1),
-            distance: 0,
-            next: at,
-        },
-        _ => no_sight(at),
-    }
+    closing_sight(tape, at)
 }

@@ -21,7 +21,8 @@ use answer::refusal::TOO_MANY_LEGS;
 use records::CLOSE;
 use records::CLOSE_BODY;
 use records::CLOSE_BYTES;
-use records::LEG;
+use records::LEG_BODY;
+use records::LEG_BYTES;
 use records::PROJECT;
 use records::PROJECT_BODY;
 use records::PROJECT_BYTES;
@@ -180,10 +181,9 @@ fn past_leg(tape: &[u8], c: Cursor) -> Cursor
     requires { ⌜ c .st .legs < mostLegs ⌝ }
     ensures { λ r. ⌜ r ≡ pastLeg (now (tape .entry)) c ⌝ }
 {
-    let at = c.at;
     let st = c.st;
     Cursor {
-        at: at + 1 + ranges::body_len(tape[at]),
+        at: c.at + LEG_BYTES,
         st: State {
             phase: AFTER_LEG,
             rows: st.rows,
@@ -274,10 +274,7 @@ fn leg_good(tape: &[u8], at: usize) -> bool
     requires { ⌜ bodyOf (getD (now tape) at 0) < length (now tape) - at ⌝ }
     ensures { λ r. ⌜ r ≡ goodThere (now (tape .entry)) at ⌝ }
 {
-    match tape[at] {
-        LEG => ranges::leg_good(digits::four_at(tape, at + 1), digits::four_at(tape, at + 5)),
-        _ => false,
-    }
+    ranges::leg_good(digits::four_at(tape, at + 1), digits::four_at(tape, at + 5))
 }
 
 // The leg that stands at the cursor.
@@ -292,7 +289,7 @@ fn leg(tape: &[u8], c: Cursor) -> u32
     if MOST_LEGS <= st.legs {
         return TOO_MANY_LEGS;
     }
-    if tape.len() - at <= ranges::body_len(tape[at]) {
+    if tape.len() - at <= LEG_BODY {
         return CUT_SHORT;
     }
     if leg_good(tape, at) {
