@@ -17,13 +17,23 @@ use Rattle.text.specs.Text.{ascii, decimal, signed, plain}
 use Rattle.desk.specs.declared.Page.{Page}
 use Rattle.desk.specs.declared.Page.the-variants.{Refused, Text}
 
+-- ---- the decimals of what is printed: seconds have one, feet two, square feet four
+abbrev pub secondDecimals : ℕ
+secondDecimals = 1
+
+abbrev pub footDecimals : ℕ
+footDecimals = 2
+
+abbrev pub areaDecimals : ℕ
+areaDecimals = 4
+
 -- ---- "Every line ends with one line feed; nothing is padded."
 -- "First line: W in seconds, closures in feet, always signed (zero is +), precision number."
 unfoldable pub closures : ℤ → ℤ → ℤ → List ℕ
 closures w n e =
-    (ascii "CLOSE W=" ++ signed 1 w)
-    ++ (ascii " N=" ++ signed 2 n)
-    ++ (ascii " E=" ++ signed 2 e)
+    (ascii "CLOSE W=" ++ signed secondDecimals w)
+    ++ (ascii " N=" ++ signed footDecimals n)
+    ++ (ascii " E=" ++ signed footDecimals e)
 
 unfoldable pub closeLine : ℤ → ℤ → ℤ → ℕ → List ℕ
 closeLine w n e p = closures w n e ++ (ascii " P=" ++ decimal p ++ ascii "\n")
@@ -31,7 +41,8 @@ closeLine w n e p = closures w n e ++ (ascii " P=" ++ decimal p ++ ascii "\n")
 -- "Then station, northing, easting, a minus sign only when negative"
 unfoldable pub stationLine : ℕ → ℤ → ℤ → List ℕ
 stationLine k n e =
-    decimal k ++ ((ascii " " ++ plain 2 n) ++ (ascii " " ++ plain 2 e) ++ ascii "\n")
+    decimal k
+    ++ ((ascii " " ++ plain footDecimals n) ++ (ascii " " ++ plain footDecimals e) ++ ascii "\n")
 
 -- the line of station k, whose coordinates are in the words, and the lines of the first k stations
 unfoldable pub lineOf : List ℤ → ℕ → List ℕ
@@ -43,7 +54,7 @@ stationLines words (suc k) = stationLines words k ++ lineOf words k
 
 -- "The last line stands only for a loop."
 unfoldable pub areaLine : ℤ → Bool → List ℕ
-areaLine area loop = cond loop (ascii "AREA2 " ++ plain 4 area ++ ascii "\n") []
+areaLine area loop = cond loop (ascii "AREA2 " ++ plain areaDecimals area ++ ascii "\n") []
 
 -- the sheet of an adjusted traverse, and of its stations' words
 unfoldable pub textOf : Traversed → List ℤ → List ℕ

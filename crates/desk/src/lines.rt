@@ -15,6 +15,20 @@ ghost use Rattle.desk.specs.Sheet.{areaLine, textOf};
 ghost use Rattle.desk.specs.Answer.{mostStations, stationWords, told};
 ghost use Rattle.desk.specs.declared.Answer.the-variants.{Adjusted};
 
+// ---- the decimals of what is printed, and how many units make one: tenths of a second, hundredths
+// of a foot, ten-thousandths of a square foot
+const SECOND_DECIMALS: usize = 1;
+
+const TENTHS: u64 = 10;
+
+const FOOT_DECIMALS: usize = 2;
+
+const HUNDREDTHS: u64 = 100;
+
+const AREA_DECIMALS: usize = 4;
+
+const AREA_UNITS: u64 = 10_000;
+
 // A name, and an amount after it.
 fn put_named(
     out: &mut [u8],
@@ -40,9 +54,9 @@ fn put_closures(out: &mut [u8], w: Whole, north: Whole, east: Whole) -> usize
     ensures { λ r. ⌜ Put (now (out .entry)) 0 (closures (w .v) (north .v) (east .v))
         (now (out .exit)) r ⌝ }
 {
-    let i = put_named(out, 0, b"CLOSE W=", b"+", w, 1, 10);
-    let j = put_named(out, i, b" N=", b"+", north, 2, 100);
-    put_named(out, j, b" E=", b"+", east, 2, 100)
+    let i = put_named(out, 0, b"CLOSE W=", b"+", w, SECOND_DECIMALS, TENTHS);
+    let j = put_named(out, i, b" N=", b"+", north, FOOT_DECIMALS, HUNDREDTHS);
+    put_named(out, j, b" E=", b"+", east, FOOT_DECIMALS, HUNDREDTHS)
 }
 
 // A count between a word and the line feed.
@@ -73,8 +87,8 @@ fn put_place(out: &mut [u8], at: usize, north: Whole, east: Whole) -> usize
         ((ascii " " ++ plain 2 (north .v)) ++ (ascii " " ++ plain 2 (east .v)) ++ ascii "\n")
         (now (out .exit)) r ⌝ }
 {
-    let i = put_named(out, at, b" ", b"", north, 2, 100);
-    let j = put_named(out, i, b" ", b"", east, 2, 100);
+    let i = put_named(out, at, b" ", b"", north, FOOT_DECIMALS, HUNDREDTHS);
+    let j = put_named(out, i, b" ", b"", east, FOOT_DECIMALS, HUNDREDTHS);
     text::put(out, j, b"\n")
 }
 
@@ -118,7 +132,7 @@ fn put_area(out: &mut [u8], at: usize, area: Whole, looped: bool) -> usize
     ensures { λ r. ⌜ Put (now (out .entry)) at (areaLine (area .v) looped) (now (out .exit)) r ⌝ }
 {
     if looped {
-        let i = put_named(out, at, b"AREA2 ", b"", area, 4, 10000);
+        let i = put_named(out, at, b"AREA2 ", b"", area, AREA_DECIMALS, AREA_UNITS);
         return text::put(out, i, b"\n");
     }
     at

@@ -52,7 +52,7 @@ module _ (tape : List ℕ) (at : ℕ) where
       rw (ne-eqb k 3 f, ne-eqb k 4 g)
       (by-test P (leb (at + 1 + bodyOf k) (length tape)) (λ t. refl) (λ t. refl))
 
-  module _ (no-leg : getD tape at 0 ≡ 3 → length tape ≤ at + 8) where
+  module _ (no-leg : getD tape at 0 ≡ 3 → length tape ≤ at + bodyOf 3) where
     no-sight : (getD tape at 0 ≡ 4 → length tape ≤ at + 16) → noSight at ≡ sightAt tape at
     unfolding bodyOf fieldsOf table
     no-sight no-close =
@@ -71,8 +71,10 @@ module _ (tape : List ℕ) (at : ℕ) where
     none-sight g = no-sight (λ is. absurd (g is))
 
   -- what `sight_at` has found where it asks for the close
-  pub far-leg : (n : ℕ) → n ≡ length tape - 8 → n ≤ at → getD tape at 0 ≡ 3 → length tape ≤ at + 8
+  pub far-leg : (n : ℕ) → n ≡ length tape - 8 → n ≤ at → getD tape at 0 ≡ 3
+      → length tape ≤ at + bodyOf 3
+  unfolding bodyOf fieldsOf table
   far-leg n e h is = omega arith
 
-  pub other-leg : (getD tape at 0 ≡ 3 → ⊥) → getD tape at 0 ≡ 3 → length tape ≤ at + 8
+  pub other-leg : (getD tape at 0 ≡ 3 → ⊥) → getD tape at 0 ≡ 3 → length tape ≤ at + bodyOf 3
   other-leg f is = absurd (f is)

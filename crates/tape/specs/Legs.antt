@@ -13,8 +13,8 @@ use Rattle.tape.specs.Fields.{pick, turns, angleOf, distanceOf}
 use Rattle.tape.specs.declared.Sight.{Sight}
 
 -- ---- at any place of any tape: the angle and the distance of the leg that stands there, and the
--- place of the record after it. A close has an angle, and the walk stays there; where neither stands
--- whole all is zero but the place
+-- place of the record after it. A close has an angle, and the walk stays there; where neither
+-- stands whole all is zero but the place
 abbrev pub recordAt : List ℕ → ℕ → Rec
 recordAt tape at = let k = getD tape at 0 in rec k (numbersOf k (drop at tape))
 

@@ -8,7 +8,7 @@ use whole::Whole;
 ghost use mathlib.Core.Path.{_≡_};
 ghost use Prim.Native.Nat.{_+_, _-_, _≤_};
 ghost use lib.ListN.{length, getD};
-ghost use Rattle.records.specs.Record.{legKind};
+ghost use Rattle.records.specs.Record.{legKind, bodyOf};
 ghost use Rattle.tape.specs.Tape.{isLeg, readingOf, told};
 ghost use Rattle.tape.specs.Fields.{takenOf, toldTaken, AllBytes};
 ghost use Rattle.tape.specs.Legs.{sightAt};
@@ -120,7 +120,7 @@ fn is_leg(kind: u8) -> bool
 
 // What stands at a place where no leg stands whole: the close, or nothing.
 fn closing_sight(tape: &[u8], at: usize) -> Sight
-    requires { ⌜ (getD (now tape) at 0 ≡ legKind → length (now tape) ≤ at + 8) ⌝ }
+    requires { ⌜ (getD (now tape) at 0 ≡ legKind → length (now tape) ≤ at + bodyOf legKind) ⌝ }
     ensures { λ r. ⌜ r ≡ sightAt (now (tape .entry)) at ⌝ }
 {
     if at < places(tape, CLOSE_BODY) {
