@@ -27,7 +27,7 @@ pub record Site : Type 0 where
   pub scale : ℕ
 
 -- the fixed point where the line opens, the azimuth to the mark there, and the place of the first
--- record after it
+-- leg, which is the record after it
 pub record Opening : Type 0 where
   pub from : Point
   pub mark : ℕ
