@@ -5,7 +5,7 @@ use crate::output;
 
 pub fn answer() {
     let angle = input::read_u32();
-    let own = sines::table();
+    let own = minutes::table();
     output::tell_amount(sines::sine(angle));
     output::tell_amount(sines::cosine(angle));
     output::tell_amount(sines::sine_in(&own, angle));

@@ -56,8 +56,8 @@ pub fn answer() {
         14 => tell_count(closure::precision(read_i64(), read_i64(), read_u64())),
         15 => read_area(),
         // latitude and departure with the library's table lent
-        16 => tell_amount(course::latitude_in(&sines::table(), read_u64(), read_u32())),
-        17 => tell_amount(course::departure_in(&sines::table(), read_u64(), read_u32())),
+        16 => tell_amount(course::latitude_in(&minutes::table(), read_u64(), read_u32())),
+        17 => tell_amount(course::departure_in(&minutes::table(), read_u64(), read_u32())),
         _ => {}
     }
 }

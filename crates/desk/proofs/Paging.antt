@@ -2,17 +2,15 @@
 -- since it never exceeds 4,096 bytes, and what is put from the first byte on leaves all behind it as it was.
 use Prim.Native.Nat.{ℕ, _≤_, _<_}
 use native.Mathlib.Omega.{arith}
-use mathlib.Core.Path.{_≡_, sym, _∙_, ap, subst}
-use mathlib.Core.List.{List, []}
+use mathlib.Core.Path.{_≡_, sym, _∙_, ap}
+use mathlib.Core.List.{List}
 use borrow.Author.Tests.{lt-ltb, le-ltb, ne-eqb}
 use lib.ListN.{length}
 use lib.IntN.{ℤ}
 use Rattle.desk.specs.declared.Answer.{Answer}
 use Rattle.desk.specs.declared.Figures.{Figures}
 use Rattle.desk.specs.declared.Answer.the-variants as traverse
-use Rattle.minutes.specs.Entry.{entry}
-use Rattle.sines.specs.Sine.{entryIn}
-use Rattle.sines.proofs.Own.{Entries, no-entries}
+use Rattle.sines.proofs.Own.{Entries}
 use Rattle.tape.specs.Fields.{fieldsOf, takenOf}
 use Rattle.tape.specs.declared.Control.{Control}
 use Rattle.tape.specs.declared.Taken.{Taken}
@@ -97,7 +95,3 @@ module _ (e : ℕ → ℤ) (tape out : List ℕ) where
         let b = le-ltb (length out) 4096 wide in
         let i : r ≡ paged e tape (length out) = rw b (p ∙ rw (answer, its-words)) in
         record { answer = i; tells = ap told i; left = rw b (h ∙ rw (answer, its-words)) }
-
--- ---- with no table lent, every entry is the desk's own
-pub own-showed : (tape out m : List ℕ) (r : Page) → Showed (entryIn []) tape out m r → Showed entry tape out m r
-own-showed tape out m r h = subst (λ (e : ℕ → ℤ). Showed e tape out m r) no-entries h

@@ -1,15 +1,13 @@
 -- The two steps one after the other. A tape that reads has its fields in range, so no step asks for more than it has, and each way out of the code is
 -- the same way out of the definition.
 use Prim.Native.Nat.{ℕ, _≤_, _<_}
-use mathlib.Core.Path.{_≡_, refl, sym, _∙_, ap, subst}
-use mathlib.Core.List.{List, []}
+use mathlib.Core.Path.{_≡_, refl, sym, _∙_, subst}
+use mathlib.Core.List.{List}
 use borrow.Author.Tests.{lt-ltb, le-ltb}
 use lib.ListN.{length}
 use lib.IntN.{ℤ, pos, negℤ}
 use lib.Signed.{leZ}
 use Rattle.answer.proofs.Telling.{both}
-use Rattle.minutes.specs.Entry.{entry}
-use Rattle.sines.specs.Sine.{entryIn}
 use Rattle.steps.specs.Azimuth.{closesAngles}
 use Rattle.steps.specs.Course.{Axis, north, east}
 use Rattle.tape.specs.Fields.{Fields, fieldsOf, AllBytes, DoesRead, takenOf}
@@ -26,7 +24,6 @@ use Rattle.desk.specs.Answer.{told, refused, First, stopped, good, check
 use Rattle.desk.specs.Traverse.{along}
 use Rattle.desk.specs.Inside.{Known, Ready, Sound, checkedAs, withLegs}
 use Rattle.tape.proofs.Standing.{took, took-not}
-use Rattle.sines.proofs.Own.{no-entries}
 use Rattle.desk.proofs.Balancing.{sound-of}
 
 -- ---- the fields of a tape that reads
@@ -130,10 +127,3 @@ module _ (e : ℕ → ℤ) (tape : List ℕ) (words : List ℤ) where
 
       pub good-words : (l : List ℤ) → l ≡ wordsAfterFirst e (checkedAngles (fieldsOf tape)) words → l ≡ traversedWordsBy e tape words
       good-words = known-words wide c (known-is tape t bytes f c h)
-
--- ---- with no table lent, every entry is the desk's own
-pub own-told : (tape : List ℕ) (room : ℕ) (r : Answer) → told r ≡ traversedBy (entryIn []) tape room → told r ≡ traversedBy entry tape room
-own-told tape room r g = g ∙ ap (λ (e : ℕ → ℤ). traversedBy e tape room) no-entries
-
-pub own-words : (tape : List ℕ) (l words : List ℤ) → l ≡ traversedWordsBy (entryIn []) tape words → l ≡ traversedWordsBy entry tape words
-own-words tape l words g = g ∙ ap (λ (e : ℕ → ℤ). traversedWordsBy e tape words) no-entries

@@ -2,6 +2,7 @@
 use crate::Frame;
 use crate::Sums;
 use crate::places;
+use minutes::ENTRIES;
 use steps::course;
 use steps::course::Moves;
 use tape::Point;
@@ -44,7 +45,7 @@ fn added(s: Sums, long: u64, moves: Moves) -> Sums
 
 // Leg k on, by the sines of a lent table.
 fn advance(
-    table: &[u32],
+    table: &[u32; ENTRIES],
     factor: u32,
     azimuths: &[u32],
     distances: &[u32],
@@ -88,7 +89,7 @@ fn keep(spots: &mut [i64], runs: &mut [u64], k: usize, s: Sums)
 // summed at the last one comes back. Lists are lent, since a list of structures would be copied
 // whole wherever it is handed on.
 pub fn run_all(
-    table: &[u32],
+    table: &[u32; ENTRIES],
     b: Frame,
     azimuths: &[u32],
     distances: &[u32],

@@ -2,6 +2,7 @@
 // balances the angles, the second closes and adjusts.
 use answer::limit::MOST_LEGS;
 use answer::refusal::NO_ROOM;
+use minutes::ENTRIES;
 use tape::Control;
 use tape::Point;
 use tape::Taken;
@@ -89,8 +90,9 @@ mod lines;
 mod places;
 mod second;
 
-// A tape that reads: its angles are checked and balanced, then it is closed and adjusted.
-fn work(table: &[u32], tape: &[u8], c: Control, words: &mut [i64]) -> Answer
+// A tape that reads, by the sines of a lent table: its angles are checked and balanced, then it is
+// closed and adjusted.
+fn work_in(table: &[u32; ENTRIES], tape: &[u8], c: Control, words: &mut [i64]) -> Answer
     requires { ⌜ Known (now tape) c ⌝ }
     requires { ⌜ stationWords ≤ length (now words) ⌝ }
     ensures answer { λ r. ⌜ told r
@@ -106,14 +108,33 @@ fn work(table: &[u32], tape: &[u8], c: Control, words: &mut [i64]) -> Answer
     let checked = checking::check_angles(tape, c, &mut azimuths, &mut distances);
     match checked {
         Checked::Refused { number, place } => Answer::Refused { number, place },
-        Checked::Good(b) => second::settle(table, b, &azimuths, &distances, words),
+        Checked::Good(b) => second::settle_in(table, b, &azimuths, &distances, words),
     }
 }
 
-// The whole by the sines of a lent table, whatever it holds: a tape in, an adjusted traverse out. A
-// list too short for a table lends nothing. No word is written on a refusal. A caller that works
-// many tapes takes the desk's table once and lends it.
-pub fn traverse_in(table: &[u32], tape: &[u8], words: &mut [i64]) -> Answer
+// The same by the desk's own table.
+fn work(tape: &[u8], c: Control, words: &mut [i64]) -> Answer
+    requires { ⌜ Known (now tape) c ⌝ }
+    requires { ⌜ stationWords ≤ length (now words) ⌝ }
+    ensures answer { λ r. ⌜ told r
+        ≡ afterFirst entry (checkedAngles (fieldsOf (now (tape .entry)))) ⌝ }
+    ensures words { λ r. ⌜ now (words .exit)
+        ≡ wordsAfterFirst entry (checkedAngles (fieldsOf (now (tape .entry))))
+        (now (words .entry)) ⌝ }
+{
+    let mut azimuths = [0u32; MOST_LEGS];
+    let mut distances = [0u32; MOST_LEGS];
+    let checked = checking::check_angles(tape, c, &mut azimuths, &mut distances);
+    match checked {
+        Checked::Refused { number, place } => Answer::Refused { number, place },
+        Checked::Good(b) => second::settle(b, &azimuths, &distances, words),
+    }
+}
+
+// The whole by the sines of a lent table, whatever it holds: a tape in, an adjusted traverse out.
+// No word is written on a refusal. A caller that works many tapes takes the desk's table once and
+// lends it.
+pub fn traverse_in(table: &[u32; ENTRIES], tape: &[u8], words: &mut [i64]) -> Answer
     ensures answer { λ r. ⌜ told r
         ≡ traversedBy (entryIn (now (table .entry))) (now (tape .entry))
         (length (now (words .entry))) ⌝ }
@@ -130,18 +151,28 @@ pub fn traverse_in(table: &[u32], tape: &[u8], words: &mut [i64]) -> Answer
     let taken = tape::take(tape);
     match taken {
         Taken::Refused { number, place } => Answer::Refused { number, place },
-        Taken::Reads(c) => work(table, tape, c, words),
+        Taken::Reads(c) => work_in(table, tape, c, words),
     }
 }
 
-// The paper's traverse: no table is lent, so every entry is the desk's own.
+// The paper's traverse, by the desk's own table, which is laid out once everything is tested that
+// needs no sine.
 pub fn traverse(tape: &[u8], words: &mut [i64]) -> Answer
     ensures answer { λ r. ⌜ told r ≡ traversed (now (tape .entry)) (length (now (words .entry))) ⌝ }
     ensures words { λ r. ⌜ now (words .exit)
         ≡ traversedWords (now (tape .entry)) (now (words .entry)) ⌝ }
 {
-    let none = [0u32; 0];
-    traverse_in(&none, tape, words)
+    if words.len() < STATION_WORDS {
+        return Answer::Refused {
+            number: NO_ROOM,
+            place: 0,
+        };
+    }
+    let taken = tape::take(tape);
+    match taken {
+        Taken::Refused { number, place } => Answer::Refused { number, place },
+        Taken::Reads(c) => work(tape, c, words),
+    }
 }
 
 // An answer of the traverse, shown: its refusal, or its text in the lent bytes.
@@ -157,22 +188,33 @@ fn show(answer: Answer, words: &[i64; STATION_WORDS], out: &mut [u8]) -> Page
     }
 }
 
-// The sheet of a tape that reads. Its words are its own, and are laid out only here, so that a tape
-// that does not read pays for none.
-fn compose(table: &[u32], tape: &[u8], c: Control, out: &mut [u8]) -> Page
+// The sheet of a tape that reads, by the sines of a lent table. Its words are its own, and are laid
+// out only here, so that a tape that does not read pays for none.
+fn compose_in(table: &[u32; ENTRIES], tape: &[u8], c: Control, out: &mut [u8]) -> Page
     requires { ⌜ Known (now tape) c ⌝ }
     requires { ⌜ sheetBytes ≤ length (now out) ⌝ }
     ensures { λ r. ⌜ Showed (entryIn (now (table .entry))) (now (tape .entry))
         (now (out .entry)) (now (out .exit)) r ⌝ }
 {
     let mut words = [0i64; STATION_WORDS];
-    let answer = work(table, tape, c, &mut words);
+    let answer = work_in(table, tape, c, &mut words);
+    show(answer, &words, out)
+}
+
+// The same by the desk's own table.
+fn compose(tape: &[u8], c: Control, out: &mut [u8]) -> Page
+    requires { ⌜ Known (now tape) c ⌝ }
+    requires { ⌜ sheetBytes ≤ length (now out) ⌝ }
+    ensures { λ r. ⌜ Showed entry (now (tape .entry)) (now (out .entry)) (now (out .exit)) r ⌝ }
+{
+    let mut words = [0i64; STATION_WORDS];
+    let answer = work(tape, c, &mut words);
     show(answer, &words, out)
 }
 
 // The sheet step by the sines of a lent table, whatever it holds: the text of an accepted tape,
 // from the first lent byte. Refusal 1 is tested before all, and no byte is written on a refusal.
-pub fn sheet_in(table: &[u32], tape: &[u8], out: &mut [u8]) -> Page
+pub fn sheet_in(table: &[u32; ENTRIES], tape: &[u8], out: &mut [u8]) -> Page
     ensures { λ r. ⌜ Showed (entryIn (now (table .entry))) (now (tape .entry))
         (now (out .entry)) (now (out .exit)) r ⌝ }
 {
@@ -185,17 +227,15 @@ pub fn sheet_in(table: &[u32], tape: &[u8], out: &mut [u8]) -> Page
     let taken = tape::take(tape);
     match taken {
         Taken::Refused { number, place } => Page::Refused { number, place },
-        Taken::Reads(c) => compose(table, tape, c, out),
+        Taken::Reads(c) => compose_in(table, tape, c, out),
     }
 }
 
-// The paper's sheet: no table is lent, so every entry is the desk's own. It does not go by
-// `sheet_in`: with two callers `compose` is compiled for itself, and both ways of a refused tape
-// are short (docs/SPEED.md).
+// The paper's sheet, by the desk's own table, which is laid out once everything is tested that
+// needs no sine.
 pub fn sheet(tape: &[u8], out: &mut [u8]) -> Page
     ensures { λ r. ⌜ Showed entry (now (tape .entry)) (now (out .entry)) (now (out .exit)) r ⌝ }
 {
-    let none = [0u32; 0];
     if out.len() < SHEET_BYTES {
         return Page::Refused {
             number: NO_ROOM,
@@ -205,7 +245,7 @@ pub fn sheet(tape: &[u8], out: &mut [u8]) -> Page
     let taken = tape::take(tape);
     match taken {
         Taken::Refused { number, place } => Page::Refused { number, place },
-        Taken::Reads(c) => compose(&none, tape, c, out),
+        Taken::Reads(c) => compose(tape, c, out),
     }
 }
 

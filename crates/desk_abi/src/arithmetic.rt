@@ -44,7 +44,7 @@ pub extern "C" fn vas_grid(distance: u64, factor: u64, value: &mut u64) -> u32
 pub extern "C" fn vas_table(table: &mut [u32; ENTRIES])
     ensures { λ r. ⌜ Table (now (table .exit)) ⌝ }
 {
-    *table = sines::table();
+    *table = minutes::table();
 }
 
 // The sine and the cosine of an angle.

@@ -48,13 +48,3 @@ minutes-right = record { count = refl; each = is-entry }
 -- every entry is a natural number of at most a billion
 pub entry-is : (m : ℕ) → m ≤ 5400 → (n : ℕ) × (entry m ≡ pos n) × (n ≤ 1000000000)
 entry-is m h = (getD minutes m 0, sym (is-entry m h), at-most m h)
-
-pub entry-most : (m x : ℕ) → m ≤ 5400 → pos x ≡ entry m → x ≤ 1000000000
-entry-most m x h e =
-    let (n, f, g) = entry-is m h in
-    omega (arith, ap natAbs (e ∙ f))
-
--- behind 90 degrees the last entry stands for all
-pub behind-last : (m : ℕ) → 5400 ≤ m → pos 1000000000 ≡ entry (min m 5400)
-unfolding minutes
-behind-last m h = is-entry 5400 (omega arith) ∙ ap entry (omega arith)

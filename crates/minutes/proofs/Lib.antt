@@ -1,4 +1,3 @@
-pub mod Curve
 pub mod Entries
 pub mod Every
 pub mod Listed

@@ -1,18 +1,11 @@
 -- Any two outcomes that a promise of this crate allows coincide, for every input.
-use mathlib.Core.Path.{_≡_, sym, _∙_, ap, ap₂}
+use mathlib.Core.Path.{_≡_, sym, _∙_, ap}
 use mathlib.Core.List.{List}
-use Prim.Native.Nat.{ℕ, _+_, min}
+use Prim.Native.Nat.{ℕ}
 use native.Mathlib.Omega.{arith}
 use lib.Seq.{ext-getD}
-use lib.IntN.{pos, natAbs}
-use Rattle.minutes.specs.Entry.{Table, entry}
-use Rattle.minutes.specs.declared.Pair.{Pair}
-
--- `pair_at`
-module _ (m : ℕ) (p q : Pair) where
-  pub pair-single : pos (p .e) ≡ entry (min m 5400) → pos (p .f) ≡ entry (min (m + 1) 5400) → pos (q .e) ≡ entry (min m 5400) → pos (q .f) ≡ entry (min (m + 1) 5400)
-      → p ≡ q
-  pair-single a b c d = ap₂ (λ (x y : ℕ). record { e = x; f = y }) (ap natAbs (a ∙ sym c)) (ap natAbs (b ∙ sym d))
+use lib.IntN.{natAbs}
+use Rattle.minutes.specs.Entry.{Table}
 
 -- `table`
 pub table-single : (t u : List ℕ) → Table t → Table u → t ≡ u

@@ -1,4 +1,3 @@
 pub mod Entry
 pub mod Exact
-pub mod Inside
 pub mod Quadrant

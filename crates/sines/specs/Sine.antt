@@ -1,14 +1,14 @@
 -- Paper 01, "Sines": the interpolation between the entries of the table, and what the steps answer.
-use mathlib.Core.Bool.{cond, _&&_}
+use mathlib.Core.Bool.{cond}
 use mathlib.Core.List.{List}
 use Prim.Native.Nat.{ℕ, _+_, _/_, _%_, min}
 use lib.Dec.{leb, ltb}
-use lib.ListN.{length, getD}
+use lib.ListN.{getD}
 use lib.IntN.{ℤ, pos, natAbs, _+ℤ_, _-ℤ_, _*ℤ_}
 use Rattle.whole.specs.Nearest.{nearest}
 use Rattle.answer.specs.Refusal.{outOfRange}
 use Rattle.answer.specs.Told.{Told, given, refused, inRange}
-use Rattle.minutes.specs.Entry.{entry, entries, lastMinute}
+use Rattle.minutes.specs.Entry.{entry, lastMinute}
 use Rattle.minutes.specs.Exact.{nineDecimals}
 use Rattle.minutes.specs.Quadrant.{circle, halfCircle, tenthsInMinute, turned, around, ahead}
 use Rattle.sines.specs.declared.Sides.{Sides}
@@ -31,12 +31,10 @@ sineBy e a = around (quarterBy e) a
 abbrev pub cosineBy : (ℕ → ℤ) → ℕ → ℤ
 cosineBy e a = sineBy e (ahead a)
 
--- the entries of any list that is lent for a table: one above 1 counts as 1, so that no sine is above 1. A list too short for a table lends none, and
--- all are the paper's, as are those behind 90 degrees. So an empty list stands for the paper's table, and so does a list that holds it
+-- the entries of any table that is lent: one above 1 counts as 1, so that no sine is above 1. Past
+-- 90 degrees a table has none, and no sine takes one
 unfoldable pub entryIn : List ℕ → ℕ → ℤ
-entryIn t m =
-    cond (leb entries (length t) && leb m lastMinute) (pos (min (getD t m 0) nineDecimals))
-    (entry m)
+entryIn t m = cond (leb m lastMinute) (pos (min (getD t m 0) nineDecimals)) (entry m)
 
 -- "An angle of 12,960,000 or more is refused (4)"
 abbrev pub ofAngle : ℕ → ℤ → Told

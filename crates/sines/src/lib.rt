@@ -1,7 +1,8 @@
-// Sines and cosines by the table of whole minutes, in units of the ninth decimal; angles in tenths of a second.
+// Sines and cosines by the table of whole minutes, in units of the ninth decimal; angles in tenths
+// of a second.
 //
-// An entry of the table costs some instructions, so whoever wants many sines takes the table once and lends it. Any list may be lent: one that is too short
-// for a table lends nothing, and the entries are the desk's own. Sizes are unsigned, and a sign is put on once.
+// The functions that end in `_in` read a lent table, whatever it holds; the others lay out the
+// desk's own once their angle is known to be one. Sizes are unsigned, and a sign is put on once.
 use answer::Amount;
 use minutes::ENTRIES;
 use minutes::LAST_MINUTE;
@@ -15,13 +16,12 @@ use whole::Whole;
 ghost use mathlib.Core.Path.{_≡_};
 ghost use Prim.Native.Nat.{_+_, _-_, _*_, _<_, _≤_, _^_, min};
 ghost use lib.Dec.{ltb};
-ghost use lib.ListN.{length};
 ghost use lib.IntN.{pos, natAbs};
 ghost use Rattle.answer.specs.Told.{told};
 ghost use Rattle.minutes.specs.Quadrant.{circle, halfCircle, quarterCircle, tenthsInMinute};
 ghost use Rattle.minutes.specs.Quadrant.{folded, turned, ahead};
 ghost use Rattle.minutes.specs.Exact.{nineDecimals};
-ghost use Rattle.minutes.specs.Entry.{Table, entry, entries, lastMinute};
+ghost use Rattle.minutes.specs.Entry.{entry, lastMinute};
 ghost use Rattle.sines.specs.Sine.{between as Sine·between, quarterBy, entryIn, sineBy, cosineBy, ofAngle, turnedBy, toldSine, toldCosine};
 
 // The last minute that has a next one: 90 degrees are a whole minute past it.
@@ -50,14 +50,7 @@ pub enum Turned {
     Are(Sides),
 }
 
-// The table by value.
-pub fn table() -> [u32; ENTRIES]
-    ensures { λ r. ⌜ Table r ⌝ }
-{
-    minutes::table()
-}
-
-// What an entry of a lent list counts as.
+// What an entry of a lent table counts as.
 fn counted(e: u32) -> u32
     ensures { λ r. ⌜ r ≡ min e nineDecimals ⌝ }
 {
@@ -90,21 +83,12 @@ fn between(e: u32, f: u32, r: u32) -> u32
     e - whole::half_up((e - f) as u64 * r as u64, MINUTE) as u32
 }
 
-// The sine r tenths past a minute, by the desk's own entries.
-fn unlent(m: usize, r: u32) -> u32
+// The sine r tenths past a minute, by the entries of a lent table. Those of a table of sines rise
+// and are at most 1, which is tried first: then each counts as it stands.
+fn past_minute(table: &[u32; ENTRIES], m: usize, r: u32) -> u32
     requires { ⌜ (m < lastMinute) × (r ≤ tenthsInMinute) ⌝ }
-    ensures is { λ v. ⌜ pos v ≡ Sine·between (entry m) (entry (m + 1)) r ⌝ }
-    ensures most { λ v. ⌜ v ≤ nineDecimals ⌝ }
-{
-    let p = minutes::pair_at(m);
-    between(p.e, p.f, r)
-}
-
-// The same by the entries of a lent table. Those of a table of sines rise and are at most 1, which is tried first: then each counts as it stands.
-fn lent(table: &[u32], m: usize, r: u32) -> u32
-    requires { ⌜ entries ≤ length (now table) ⌝ }
-    requires { ⌜ (m < lastMinute) × (r ≤ tenthsInMinute) ⌝ }
-    ensures is { λ v. ⌜ pos v ≡ Sine·between (entryIn (now (table .entry)) m) (entryIn (now (table .entry)) (m + 1)) r ⌝ }
+    ensures is { λ v. ⌜ pos v ≡ Sine·between (entryIn (now (table .entry)) m)
+        (entryIn (now (table .entry)) (m + 1)) r ⌝ }
     ensures most { λ v. ⌜ v ≤ nineDecimals ⌝ }
 {
     let e = table[m];
@@ -130,22 +114,19 @@ fn minute(a: u32) -> u32
     LAST_START
 }
 
-// The sine of an angle of the first quadrant in a lent list.
-fn quarter_in(table: &[u32], a: u32) -> u32
+// The sine of an angle of the first quadrant in a lent table.
+fn quarter_in(table: &[u32; ENTRIES], a: u32) -> u32
     requires { ⌜ a ≤ quarterCircle ⌝ }
     ensures is { λ v. ⌜ pos v ≡ quarterBy (entryIn (now (table .entry))) a ⌝ }
     ensures most { λ v. ⌜ v ≤ nineDecimals ⌝ }
 {
     let m = minute(a);
-    let r = a - TENTHS_IN_MINUTE * m;
-    if table.len() < ENTRIES {
-        return unlent(m as usize, r);
-    }
-    lent(table, m as usize, r)
+    past_minute(table, m as usize, a - TENTHS_IN_MINUTE * m)
 }
 
-// Its sine and its cosine, whose angle is what is left to 90 degrees: the same tenths, counted back from the other end of the table.
-fn both_in(table: &[u32], a: u32) -> Sizes
+// Its sine and its cosine, whose angle is what is left to 90 degrees: the same tenths, counted back
+// from the other end of the table.
+fn both_in(table: &[u32; ENTRIES], a: u32) -> Sizes
     requires { ⌜ a ≤ quarterCircle ⌝ }
     ensures sine { λ s. ⌜ pos (s .sine) ≡ quarterBy (entryIn (now (table .entry))) a ⌝ }
     ensures cosine { λ s. ⌜ pos (s .cosine)
@@ -153,15 +134,9 @@ fn both_in(table: &[u32], a: u32) -> Sizes
 {
     let m = minute(a);
     let r = a - TENTHS_IN_MINUTE * m;
-    if table.len() < ENTRIES {
-        return Sizes {
-            sine: unlent(m as usize, r),
-            cosine: unlent((LAST_START - m) as usize, TENTHS_IN_MINUTE - r),
-        };
-    }
     Sizes {
-        sine: lent(table, m as usize, r),
-        cosine: lent(table, (LAST_START - m) as usize, TENTHS_IN_MINUTE - r),
+        sine: past_minute(table, m as usize, r),
+        cosine: past_minute(table, (LAST_START - m) as usize, TENTHS_IN_MINUTE - r),
     }
 }
 
@@ -205,8 +180,9 @@ fn signed(size: u32, negative: bool) -> Whole
     v
 }
 
-// The sine and the cosine of an angle in a lent list, whatever the list holds. The angle is folded once: the cosine's is what is left to 90 degrees.
-pub fn sides_in(table: &[u32], angle: u32) -> Turned
+// The sine and the cosine of an angle in a lent table, whatever it holds. The angle is folded once:
+// the cosine's is what is left to 90 degrees.
+pub fn sides_in(table: &[u32; ENTRIES], angle: u32) -> Turned
     ensures is { λ r. ⌜ r ≡ turnedBy (entryIn (now (table .entry))) angle ⌝ }
     ensures sine { λ r. ⌜ toldSine r ≡ ofAngle angle (sineBy (entryIn (now (table .entry))) angle) ⌝ }
     ensures cosine { λ r. ⌜ toldCosine r ≡ ofAngle angle (cosineBy (entryIn (now (table .entry))) angle) ⌝ }
@@ -223,8 +199,8 @@ pub fn sides_in(table: &[u32], angle: u32) -> Turned
     })
 }
 
-// The sine of an angle in a lent list.
-pub fn sine_in(table: &[u32], angle: u32) -> Amount
+// The sine of an angle in a lent table.
+pub fn sine_in(table: &[u32; ENTRIES], angle: u32) -> Amount
     ensures is { λ r. ⌜ told r ≡ ofAngle angle (sineBy (entryIn (now (table .entry))) angle) ⌝ }
     ensures size { λ r. ⌜ natAbs (told r .value) < 2 ^ 32 ⌝ }
 {
@@ -235,7 +211,7 @@ pub fn sine_in(table: &[u32], angle: u32) -> Amount
 }
 
 // The cosine is the sine of the angle plus 90 degrees.
-pub fn cosine_in(table: &[u32], angle: u32) -> Amount
+pub fn cosine_in(table: &[u32; ENTRIES], angle: u32) -> Amount
     ensures is { λ r. ⌜ told r ≡ ofAngle angle (cosineBy (entryIn (now (table .entry))) angle) ⌝ }
     ensures size { λ r. ⌜ natAbs (told r .value) < 2 ^ 32 ⌝ }
 {
@@ -248,17 +224,21 @@ pub fn cosine_in(table: &[u32], angle: u32) -> Amount
     ))
 }
 
-// An empty list has none of the entries, so all are the paper's.
+// By the desk's own table, which is laid out for an angle of the circle only.
 pub fn sine(angle: u32) -> Amount
     ensures { λ r. ⌜ told r ≡ ofAngle angle (sineBy entry angle) ⌝ }
 {
-    let none = [0u32; 0];
-    sine_in(&none, angle)
+    if CIRCLE <= angle {
+        return Amount::OutOfRange;
+    }
+    sine_in(&minutes::table(), angle)
 }
 
 pub fn cosine(angle: u32) -> Amount
     ensures { λ r. ⌜ told r ≡ ofAngle angle (cosineBy entry angle) ⌝ }
 {
-    let none = [0u32; 0];
-    cosine_in(&none, angle)
+    if CIRCLE <= angle {
+        return Amount::OutOfRange;
+    }
+    cosine_in(&minutes::table(), angle)
 }

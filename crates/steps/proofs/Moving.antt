@@ -1,5 +1,5 @@
--- Latitudes and departures by the sizes and signs of a sine and a cosine, for both axes alike, at once and one by one; and that by an empty list they are
--- the paper's.
+-- Latitudes and departures by the sizes and signs of a sine and a cosine, for both axes alike, at
+-- once and one by one.
 use mathlib.Core.Path.{_≡_, refl, sym, _∙_, ap}
 use mathlib.Core.Bool.{Bool, true, false, _&&_}
 use mathlib.Core.List.{List, [], _∷_}
@@ -20,12 +20,11 @@ use Rattle.answer.specs.declared.Amount.{Amount}
 use Rattle.answer.specs.declared.Amount.the-variants as amount
 use Rattle.answer.proofs.Telling.{tells, refuses, value-given, both, not-second}
 use Rattle.minutes.specs.Quadrant.{circle, turned, ahead}
-use Rattle.minutes.specs.Entry.{entry}
 use Rattle.sines.specs.Sine.{entryIn, ofAngle, turnedBy}
 use Rattle.sines.specs.declared.Sides.{Sides}
 use Rattle.sines.specs.declared.Turned.{Turned}
 use Rattle.sines.specs.declared.Turned.the-variants as turn
-use Rattle.sines.proofs.Own.{Entries, sine-size, lent-entries, no-entries}
+use Rattle.sines.proofs.Own.{Entries, sine-size, lent-entries}
 use Rattle.sines.proofs.Turns.{no-circle, in-circle, sine-most, cosine-most, sine-signed, cosine-signed}
 use Rattle.steps.specs.Course.{Axis, north, east, move, sineAlong, course, courseStep, toldOf}
 use Rattle.steps.specs.declared.course.Moves.{Moves}
@@ -58,6 +57,11 @@ module _ (e : ℕ → ℤ) (axis : Axis) (distance azimuth : ℕ) where
   pub too-long : 20100000 < distance → toldOf axis OutOfRange ≡ courseStep e axis distance azimuth
   unfolding toldOf
   too-long h = rw (lt-leb distance 20100000 h)
+
+  pub too-long-told : 20100000 < distance
+      → told amount.OutOfRange ≡ courseStep e axis distance azimuth
+  unfolding told
+  too-long-told h = rw (lt-leb distance 20100000 h)
 
   pub no-azimuth : (r : Turned) → r ≡ turnedBy e azimuth → r ≡ turn.OutOfRange → toldOf axis OutOfRange ≡ courseStep e axis distance azimuth
   unfolding toldOf
@@ -121,21 +125,22 @@ along-most e entries north azimuth h = sine-size e entries (ahead azimuth) (mod-
 along-most e entries east azimuth h = sine-size e entries azimuth h
 
 -- and what a caller has who was told it
-module _ (t : List ℕ) (axis : Axis) (azimuth : ℕ) (s : Amount) (g : told s ≡ ofAngle azimuth (sineAlong (entryIn t) axis azimuth)) where
-  pub along-small : natAbs (told s .value) ≤ 1000000000
-  along-small =
+module _ (e : ℕ → ℤ) (axis : Axis) (azimuth : ℕ) (s : Amount)
+    (g : told s ≡ ofAngle azimuth (sineAlong e axis azimuth)) where
+  pub along-small : Entries e → natAbs (told s .value) ≤ 1000000000
+  along-small entries =
       elim (decLt azimuth circle) [
-        | yes h ↦ rw (value-given (told s) _ _ g (lt-ltb azimuth circle h)) (along-most (entryIn t) (lent-entries t) axis azimuth h)
+        | yes h ↦
+            rw (value-given (told s) _ _ g (lt-ltb azimuth circle h))
+            (along-most e entries axis azimuth h)
         | no h ↦ rw (g, le-ltb azimuth circle (omega arith)) (omega arith)
       ]
 
-  pub along-moved : (distance : ℕ) (r : Amount) → told r ≡ moveTold distance (told s) → told r ≡ courseStep (entryIn t) axis distance azimuth
+  pub along-moved : (distance : ℕ) (r : Amount) → told r ≡ moveTold distance (told s)
+      → told r ≡ courseStep e axis distance azimuth
   along-moved distance r m = m ∙ rw g (by (ltb azimuth circle))
     where
-      by : (b : Bool) → moveTold distance (inRange b (sineAlong (entryIn t) axis azimuth)) ≡ inRange (leb distance 20100000 && b) (course (entryIn t) axis distance azimuth)
+      by : (b : Bool) → moveTold distance (inRange b (sineAlong e axis azimuth))
+          ≡ inRange (leb distance 20100000 && b) (course e axis distance azimuth)
       by true = refl
       by false = rw (not-second (leb distance 20100000) false refl)
-
--- by an empty list
-pub course-own : (axis : Axis) (distance azimuth : ℕ) (r : Amount) → told r ≡ courseStep (entryIn []) axis distance azimuth → told r ≡ courseStep entry axis distance azimuth
-course-own axis distance azimuth r g = g ∙ ap (λ (e : ℕ → ℤ). courseStep e axis distance azimuth) no-entries

@@ -1,5 +1,6 @@
 // Latitude and departure: how far a leg moves north and east, in hundredths of a foot. Azimuths run from south, hence the minus signs.
 use answer::Amount;
+use minutes::ENTRIES;
 use sines::Turned;
 use whole::Whole;
 ghost use mathlib.Core.Path.{_≡_};
@@ -62,8 +63,8 @@ fn move_by(distance: u64, size: u32, negative: bool) -> Whole
     moved.opposite()
 }
 
-// The latitude of a leg by the cosine in a lent list, and its departure by the sine.
-pub fn moves_in(table: &[u32], distance: u64, azimuth: u32) -> Moves
+// The latitude of a leg by the cosine in a lent table, and its departure by the sine.
+pub fn moves_in(table: &[u32; ENTRIES], distance: u64, azimuth: u32) -> Moves
     ensures is_north { λ r. ⌜ toldOf Course·north r ≡ courseStep (entryIn (now (table .entry))) Course·north distance azimuth ⌝ }
     ensures is_east { λ r. ⌜ toldOf Course·east r ≡ courseStep (entryIn (now (table .entry))) Course·east distance azimuth ⌝ }
 {
@@ -95,29 +96,33 @@ fn moved(distance: u64, sine: Amount) -> Amount
     }
 }
 
-pub fn latitude_in(table: &[u32], distance: u64, azimuth: u32) -> Amount
+pub fn latitude_in(table: &[u32; ENTRIES], distance: u64, azimuth: u32) -> Amount
     ensures { λ r. ⌜ told r ≡ courseStep (entryIn (now (table .entry))) Course·north distance azimuth ⌝ }
 {
     moved(distance, sines::cosine_in(table, azimuth))
 }
 
-pub fn departure_in(table: &[u32], distance: u64, azimuth: u32) -> Amount
+pub fn departure_in(table: &[u32; ENTRIES], distance: u64, azimuth: u32) -> Amount
     ensures { λ r. ⌜ told r ≡ courseStep (entryIn (now (table .entry))) Course·east distance azimuth ⌝ }
 {
     moved(distance, sines::sine_in(table, azimuth))
 }
 
-// By the paper's entries, which an empty list leaves.
+// By the desk's own table. The distance is tried first, so that a leg out of range lays out none.
 pub fn latitude(distance: u64, azimuth: u32) -> Amount
     ensures { λ r. ⌜ told r ≡ courseStep entry Course·north distance azimuth ⌝ }
 {
-    let none = [0u32; 0];
-    latitude_in(&none, distance, azimuth)
+    if MOST_GRID < distance {
+        return Amount::OutOfRange;
+    }
+    moved(distance, sines::cosine(azimuth))
 }
 
 pub fn departure(distance: u64, azimuth: u32) -> Amount
     ensures { λ r. ⌜ told r ≡ courseStep entry Course·east distance azimuth ⌝ }
 {
-    let none = [0u32; 0];
-    departure_in(&none, distance, azimuth)
+    if MOST_GRID < distance {
+        return Amount::OutOfRange;
+    }
+    moved(distance, sines::sine(azimuth))
 }

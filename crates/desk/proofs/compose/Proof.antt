@@ -1,12 +1,12 @@
 -- `compose` meets its contract: what the two steps answer, and the words that they leave, are shown.
 use borrow.Author.Needs.{needs}
-use Rattle.sines.proofs.Own.{lent-entries}
+use Rattle.sines.proofs.Own.{rule-entries}
 use Rattle.desk.proofs.Paging.{shows, showed}
 use Rattle.desk.proofs.compose.Statement.{statement}
 use Rattle.desk.proofs.compose.Tie as tie
 
 show-requires : tie.Need-show-requires
-show-requires c κs = search (shows, lent-entries)
+show-requires c κs = search (shows, rule-entries)
 
 returns : tie.Need-returns
 returns c = search showed

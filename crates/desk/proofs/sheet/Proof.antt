@@ -1,26 +1,28 @@
--- `sheet` meets its contract by the laws of `sheet_in`: with no table lent, the entries are the paper's.
+-- `sheet` meets its contract: no room, the refusal of a tape that does not read, or the sheet of one that does.
 use borrow.Author.Needs.{needs}
 use Rattle.desk.proofs.Stepping.{known-is}
-use Rattle.desk.proofs.Paging.{no-room, refused-showed, own-showed}
+use Rattle.desk.proofs.Paging.{no-room, refused-showed}
 use Rattle.desk.proofs.sheet.Statement.{statement}
 use Rattle.desk.proofs.sheet.Tie as tie
+
+returns : tie.Need-returns
+returns c = search no-room
 
 compose-requires : tie.Need-compose-requires
 compose-requires c κs = (search known-is, search needs)
 
-returns-3 : tie.Need-returns-3
-returns-3 c = search own-showed
+returns-2 : tie.Need-returns-2
+returns-2 c = search refused-showed
 
 pub sheet-spec : {M : Type 1} → statement M
 sheet-spec =
     tie.close
     (tie.spec
-    (λ c. search no-room)
+    returns
     (λ c κs. search needs)
     (λ c. search needs)
     (λ c. search needs)
-    (λ c. search needs)
     compose-requires
-    (λ c. search refused-showed)
+    returns-2
     (λ c. search needs)
-    returns-3)
+    (λ c. search needs))

@@ -8,8 +8,8 @@ use Rattle.desk.proofs.sheet_in.Tie as tie
 returns : tie.Need-returns
 returns c = search no-room
 
-compose-requires : tie.Need-compose-requires
-compose-requires c κs = (search known-is, search needs)
+compose-in-requires : tie.Need-compose-in-requires
+compose-in-requires c κs = (search known-is, search needs)
 
 returns-2 : tie.Need-returns-2
 returns-2 c = search refused-showed
@@ -22,7 +22,7 @@ sheet-in-spec =
     (λ c κs. search needs)
     (λ c. search needs)
     (λ c. search needs)
-    compose-requires
+    compose-in-requires
     returns-2
     (λ c. search needs)
     (λ c. search needs))

@@ -16,8 +16,8 @@ enum-known-taken c = search needs
 enum-known-taken-2 : tie.Need-enum-known-taken-2
 enum-known-taken-2 c = search needs
 
-work-requires : tie.Need-work-requires
-work-requires c κs = (search known-is, search needs)
+work-in-requires : tie.Need-work-in-requires
+work-in-requires c κs = (search known-is, search needs)
 
 returns-2 : tie.Need-returns-2
 returns-2 c = (search refused-told, search refused-words)
@@ -36,7 +36,7 @@ traverse-in-spec =
     take-requires
     enum-known-taken
     enum-known-taken-2
-    work-requires
+    work-in-requires
     returns-2
     same-length
     returns-3)

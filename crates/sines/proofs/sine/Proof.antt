@@ -1,17 +1,23 @@
--- `sine` meets its contract: by an empty list the sine is the paper's.
+-- `sine` meets its contract: by the desk's own table the sine is the paper's.
 use borrow.Author.Needs.{needs}
+use Rattle.answer.specs.Told.{told}
 use Rattle.sines.proofs.Own.{own-sine}
+use Rattle.sines.proofs.Quadrants.{too-far}
 use Rattle.sines.proofs.sine.Statement.{statement}
 use Rattle.sines.proofs.sine.Tie as tie
 
-slice-aggregate-sine-in : tie.Need-slice-aggregate-sine-in
-slice-aggregate-sine-in c = search needs
+returns : tie.Need-returns
+unfolding told
+returns c = search too-far
+
+table-requires : tie.Need-table-requires
+table-requires c κs = search needs
 
 sine-in-requires : tie.Need-sine-in-requires
 sine-in-requires c κs = search needs
 
-returns : tie.Need-returns
-returns c = search own-sine
+returns-2 : tie.Need-returns-2
+returns-2 c = search own-sine
 
 pub sine-spec : {M : Type 1} → statement M
-sine-spec = tie.close (tie.spec slice-aggregate-sine-in sine-in-requires returns)
+sine-spec = tie.close (tie.spec returns table-requires sine-in-requires returns-2)

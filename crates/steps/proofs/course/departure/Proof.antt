@@ -1,17 +1,27 @@
--- `departure` meets its contract: by an empty list the lent list's answer is the paper's.
+-- `departure` meets its contract: the sine is what counts along the axis east.
 use borrow.Author.Needs.{needs}
-use Rattle.steps.proofs.Moving.{course-own}
+use Rattle.minutes.specs.Entry.{entry}
+use Rattle.sines.proofs.Own.{rule-entries}
+use Rattle.steps.specs.Course.{sineAlong, east}
+use Rattle.steps.proofs.Moving.{along-small, along-moved, too-long-told}
 use Rattle.steps.proofs.course.departure.Statement.{statement}
 use Rattle.steps.proofs.course.departure.Tie as tie
 
-slice-aggregate-departure-in : tie.Need-slice-aggregate-departure-in
-slice-aggregate-departure-in c = search needs
-
-departure-in-requires : tie.Need-departure-in-requires
-departure-in-requires c κs = search needs
-
 returns : tie.Need-returns
-returns c = search course-own
+returns c = search too-long-told
+
+sine-requires : tie.Need-sine-requires
+sine-requires c κs = search needs
+
+moved-requires : tie.Need-moved-requires
+unfolding sineAlong
+moved-requires c κs =
+    let s = c .before .before .args in
+    along-small entry east (s .azimuth) _ (c .sine .ensures) rule-entries
+
+returns-2 : tie.Need-returns-2
+unfolding sineAlong
+returns-2 c = search along-moved
 
 pub departure-spec : {M : Type 1} → statement M
-departure-spec = tie.close (tie.spec slice-aggregate-departure-in departure-in-requires returns)
+departure-spec = tie.close (tie.spec returns sine-requires moved-requires returns-2)

@@ -1,5 +1,7 @@
 -- `departure_in` meets its contract: the sine is what counts along the axis east.
 use borrow.Author.Needs.{needs}
+use Rattle.sines.specs.Sine.{entryIn}
+use Rattle.sines.proofs.Own.{lent-entries}
 use Rattle.steps.specs.Course.{sineAlong, east}
 use Rattle.steps.proofs.Moving.{along-small, along-moved}
 use Rattle.steps.proofs.course.departure_in.Statement.{statement}
@@ -10,7 +12,10 @@ sine-in-requires c κs = search needs
 
 moved-requires : tie.Need-moved-requires
 unfolding sineAlong
-moved-requires c κs = let s = c .before .before .args in along-small (s .table .now) east (s .azimuth) _ (c .sine-in .ensures .0)
+moved-requires c κs =
+    let s = c .before .args in
+    along-small (entryIn (s .table .now)) east (s .azimuth) _ (c .sine-in .ensures .0)
+    (lent-entries (s .table .now))
 
 returns : tie.Need-returns
 unfolding sineAlong

@@ -1,17 +1,27 @@
--- `latitude` meets its contract: by an empty list the lent list's answer is the paper's.
+-- `latitude` meets its contract: the cosine is what counts along the axis north.
 use borrow.Author.Needs.{needs}
-use Rattle.steps.proofs.Moving.{course-own}
+use Rattle.minutes.specs.Entry.{entry}
+use Rattle.sines.proofs.Own.{rule-entries}
+use Rattle.steps.specs.Course.{sineAlong, north}
+use Rattle.steps.proofs.Moving.{along-small, along-moved, too-long-told}
 use Rattle.steps.proofs.course.latitude.Statement.{statement}
 use Rattle.steps.proofs.course.latitude.Tie as tie
 
-slice-aggregate-latitude-in : tie.Need-slice-aggregate-latitude-in
-slice-aggregate-latitude-in c = search needs
-
-latitude-in-requires : tie.Need-latitude-in-requires
-latitude-in-requires c κs = search needs
-
 returns : tie.Need-returns
-returns c = search course-own
+returns c = search too-long-told
+
+cosine-requires : tie.Need-cosine-requires
+cosine-requires c κs = search needs
+
+moved-requires : tie.Need-moved-requires
+unfolding sineAlong
+moved-requires c κs =
+    let s = c .before .before .args in
+    along-small entry north (s .azimuth) _ (c .cosine .ensures) rule-entries
+
+returns-2 : tie.Need-returns-2
+unfolding sineAlong
+returns-2 c = search along-moved
 
 pub latitude-spec : {M : Type 1} → statement M
-latitude-spec = tie.close (tie.spec slice-aggregate-latitude-in latitude-in-requires returns)
+latitude-spec = tie.close (tie.spec returns cosine-requires moved-requires returns-2)
