@@ -166,13 +166,18 @@ module _ (tape : List ℕ) (c : Control) (known : Known tape c) where
   distances-last k z l h i e g = filled-last (distanceAt f) zeros k (c .legs) l h i (rw e at g)
 
   -- ---- the answer, by the test
+  pub checked-fails : (x : Bool) → x ≡ closesAngles (misclosureOf f) (f .line .legs)
+      → x ≡ false → stopped 8 (c .place) ≡ checkedAngles f
+  unfolding checkedAngles
+  checked-fails x tested h = rw (← tested, h, place-is)
+
   module _ (x : Bool) (w : Whole) (a : ℕ) (tested : x ≡ closesAngles (w .v) (c .legs))
       (i : w .v ≡ misclosure a (c .given)) (j : a ≡ carried t (c .legs)) where
     misclosure-known : w .v ≡ misclosureOf f
     unfolding misclosureOf
     misclosure-known = i ∙ rw (j, known .is)
 
-    test-known : x ≡ closesAngles (misclosureOf f) (f .line .legs)
+    pub test-known : x ≡ closesAngles (misclosureOf f) (f .line .legs)
     test-known = rw (← misclosure-known, ← legs-is) tested
 
     pub checked-good : (b : Frame) (l m d : List ℕ) → x ≡ true → b ≡ frameOf c (c .legs + 1) w
@@ -191,5 +196,4 @@ module _ (tape : List ℕ) (c : Control) (known : Known tape c) where
         )
 
     pub checked-bad : x ≡ false → stopped 8 (c .place) ≡ checkedAngles f
-    unfolding checkedAngles
-    checked-bad h = rw (← test-known, h, place-is)
+    checked-bad = checked-fails x test-known

@@ -6,6 +6,7 @@ pub mod Compass
 pub mod Enough
 pub mod Fitting
 pub mod Looping
+pub mod OwnTable
 pub mod Paging
 pub mod Pairs
 pub mod Printed

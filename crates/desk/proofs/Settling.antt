@@ -23,7 +23,7 @@ use Rattle.steps.specs.Distance.{grid}
 use Rattle.steps.specs.Share.{share, shareStep}
 use Rattle.desk.specs.Line.{run, preliminary, closure, adjusted}
 use Rattle.desk.specs.Traverse.{along, longOf, line, placed}
-use Rattle.desk.specs.Answer.{told, refused, northClosure, eastClosure, distanceRun, closesOn, second, secondWords}
+use Rattle.desk.specs.Answer.{refused, northClosure, eastClosure, distanceRun, closesOn, second, secondWords}
 use Rattle.desk.specs.Inside.{withLegs, Sound, Small, Stands, wordAt, Left, Closed, Ended, Near, Shared, putTo, Placed}
 use Rattle.tape.specs.declared.Point.{Point}
 use Rattle.desk.specs.Angles.{Balanced}
@@ -33,10 +33,7 @@ use Rattle.steps.proofs.Sharing.{share-most}
 use Rattle.steps.proofs.Laws.{product-most, square-most}
 use Rattle.desk.proofs.Compass.{run-up}
 use Rattle.desk.proofs.Running.{drift, run-most, place-small, stands-small}
-use Rattle.sines.proofs.Own.{Entries, own-entries}
-use Rattle.sines.specs.Sine.{entryIn}
-use Rattle.minutes.specs.Entry.{Table, entry}
-use Rattle.desk.specs.declared.Answer.{Answer}
+use Rattle.sines.proofs.Own.{Entries}
 
 -- ---- the steps, whose input is in range
 pub within-is : (r : Verdict) (x : Bool) (n e : ℤ) (s : ℕ) → toldVerdict r ≡ closureTest n e s → passes x ≡ toldVerdict r .value
@@ -239,13 +236,3 @@ module _ (e : ℕ → ℤ) (entries : Entries e) (frame : Frame) (azimuths dista
     pub words-near : (l m : List ℤ) → x ≡ true → m ≡ putTo spots runs c (frame .legs + 1) l → m ≡ secondWords e b l
     unfolding secondWords
     words-near l m y f = rw (← test-is, y) (put-all-is l m f)
-
--- ---- by the desk's own table the entries are the paper's
-module _ (t : List ℕ) (right : Table t) (b : Balanced) where
-  pub own-second : (x : Answer) → told x ≡ second (entryIn t) b → told x ≡ second entry b
-  own-second x g = g ∙ ap (λ (e : ℕ → ℤ). second e b) (own-entries t right)
-
-  pub own-second-words : (l words : List ℤ) → l ≡ secondWords (entryIn t) b words
-      → l ≡ secondWords entry b words
-  own-second-words l words g =
-      g ∙ ap (λ (e : ℕ → ℤ). secondWords e b words) (own-entries t right)

@@ -60,6 +60,22 @@ pub fn carry(tape: &[u8], c: Control, azimuths: &mut [u32], distances: &mut [u32
     azimuth
 }
 
+// The azimuth carried to the closing mark alone: the same walk, with nothing kept.
+pub fn closing_azimuth(tape: &[u8], c: Control) -> u32
+    requires { ⌜ Known (now tape) c ⌝ }
+    ensures { λ r. ⌜ r ≡ carried (turnsOf (fieldsOf (now (tape .entry)))) (c .legs) ⌝ }
+{
+    let mut sight = tape::sight_at(tape, c.line);
+    let mut azimuth = first(c.mark, sight.angle);
+    let mut k: usize = 0;
+    while k < c.legs {
+        sight = tape::sight_at(tape, sight.next);
+        k = k + 1;
+        azimuth = next(azimuth, sight.angle);
+    }
+    azimuth
+}
+
 // The misclosure W.
 pub fn misclosure_of(closing: u32, given: u32) -> Whole
     requires { ⌜ (closing < circle) × (given < circle) ⌝ }

@@ -11,7 +11,8 @@ ghost use lib.IntN.{natAbs};
 ghost use Rattle.answer.specs.Limit.{mostLegs};
 ghost use Rattle.minutes.specs.Quadrant.{halfCircle};
 ghost use Rattle.tape.specs.Fields.{fieldsOf};
-ghost use Rattle.desk.specs.Angles.{zeros};
+ghost use Rattle.steps.specs.Azimuth.{closesAngles};
+ghost use Rattle.desk.specs.Angles.{misclosureOf, zeros};
 ghost use Rattle.desk.specs.Answer.{checkedAngles};
 ghost use Rattle.desk.specs.Inside.{Known, Scaled, AllTurned, balancedIn, frameOf, checkedAs};
 
@@ -49,4 +50,15 @@ pub fn check_angles(tape: &[u8], c: Control, azimuths: &mut [u32], distances: &m
         number: BAD_ANGLES,
         place: c.place,
     }
+}
+
+// Whether the angles of a tape that reads close. It is asked before the desk's own table is laid
+// out, so that no tape that refusal 8 meets pays for it.
+pub fn angles_stand(tape: &[u8], c: Control) -> bool
+    requires { ⌜ Known (now tape) c ⌝ }
+    ensures { λ r. ⌜ r ≡ closesAngles (misclosureOf (fieldsOf (now (tape .entry))))
+        (fieldsOf (now (tape .entry)) .line .legs) ⌝ }
+{
+    let closing = angles::closing_azimuth(tape, c);
+    angles::angles_close(angles::misclosure_of(closing, c.given), c.legs)
 }

@@ -1,6 +1,7 @@
 // The desk: a tape in, an adjusted traverse or its sheet out, in two steps. The first checks and
 // balances the angles, the second closes and adjusts.
 use answer::limit::MOST_LEGS;
+use answer::refusal::BAD_ANGLES;
 use answer::refusal::NO_ROOM;
 use minutes::ENTRIES;
 use tape::Control;
@@ -108,11 +109,12 @@ fn work_in(table: &[u32; ENTRIES], tape: &[u8], c: Control, words: &mut [i64]) -
     let checked = checking::check_angles(tape, c, &mut azimuths, &mut distances);
     match checked {
         Checked::Refused { number, place } => Answer::Refused { number, place },
-        Checked::Good(b) => second::settle_in(table, b, &azimuths, &distances, words),
+        Checked::Good(b) => second::settle(table, b, &azimuths, &distances, words),
     }
 }
 
-// The same by the desk's own table.
+// The same by the desk's own table, which is laid out where the angles close: all that needs no
+// sine is tested by then.
 fn work(tape: &[u8], c: Control, words: &mut [i64]) -> Answer
     requires { ⌜ Known (now tape) c ⌝ }
     requires { ⌜ stationWords ≤ length (now words) ⌝ }
@@ -122,12 +124,12 @@ fn work(tape: &[u8], c: Control, words: &mut [i64]) -> Answer
         ≡ wordsAfterFirst entry (checkedAngles (fieldsOf (now (tape .entry))))
         (now (words .entry)) ⌝ }
 {
-    let mut azimuths = [0u32; MOST_LEGS];
-    let mut distances = [0u32; MOST_LEGS];
-    let checked = checking::check_angles(tape, c, &mut azimuths, &mut distances);
-    match checked {
-        Checked::Refused { number, place } => Answer::Refused { number, place },
-        Checked::Good(b) => second::settle(b, &azimuths, &distances, words),
+    if checking::angles_stand(tape, c) {
+        return work_in(&minutes::table(), tape, c, words);
+    }
+    Answer::Refused {
+        number: BAD_ANGLES,
+        place: c.place,
     }
 }
 
@@ -155,8 +157,7 @@ pub fn traverse_in(table: &[u32; ENTRIES], tape: &[u8], words: &mut [i64]) -> An
     }
 }
 
-// The paper's traverse, by the desk's own table, which is laid out once everything is tested that
-// needs no sine.
+// The paper's traverse, by the desk's own table.
 pub fn traverse(tape: &[u8], words: &mut [i64]) -> Answer
     ensures answer { λ r. ⌜ told r ≡ traversed (now (tape .entry)) (length (now (words .entry))) ⌝ }
     ensures words { λ r. ⌜ now (words .exit)
@@ -201,15 +202,19 @@ fn compose_in(table: &[u32; ENTRIES], tape: &[u8], c: Control, out: &mut [u8]) -
     show(answer, &words, out)
 }
 
-// The same by the desk's own table.
+// The same by the desk's own table, laid out as in `work`.
 fn compose(tape: &[u8], c: Control, out: &mut [u8]) -> Page
     requires { ⌜ Known (now tape) c ⌝ }
     requires { ⌜ sheetBytes ≤ length (now out) ⌝ }
     ensures { λ r. ⌜ Showed entry (now (tape .entry)) (now (out .entry)) (now (out .exit)) r ⌝ }
 {
-    let mut words = [0i64; STATION_WORDS];
-    let answer = work(tape, c, &mut words);
-    show(answer, &words, out)
+    if checking::angles_stand(tape, c) {
+        return compose_in(&minutes::table(), tape, c, out);
+    }
+    Page::Refused {
+        number: BAD_ANGLES,
+        place: c.place,
+    }
 }
 
 // The sheet step by the sines of a lent table, whatever it holds: the text of an accepted tape,
@@ -231,8 +236,7 @@ pub fn sheet_in(table: &[u32; ENTRIES], tape: &[u8], out: &mut [u8]) -> Page
     }
 }
 
-// The paper's sheet, by the desk's own table, which is laid out once everything is tested that
-// needs no sine.
+// The paper's sheet, by the desk's own table.
 pub fn sheet(tape: &[u8], out: &mut [u8]) -> Page
     ensures { λ r. ⌜ Showed entry (now (tape .entry)) (now (out .entry)) (now (out .exit)) r ⌝ }
 {

@@ -15,7 +15,6 @@ ghost use mathlib.Core.Path.{_≡_};
 ghost use Prim.Native.Nat.{_+_, _≤_};
 ghost use lib.ListN.{length};
 ghost use Rattle.answer.specs.Limit.{mostLegs};
-ghost use Rattle.minutes.specs.Entry.{entry};
 ghost use Rattle.desk.specs.Answer.{mostStations, stationWords, told, second, secondWords};
 ghost use Rattle.desk.specs.Inside.{withLegs, Sound, Ended, Near, Shared, putTo};
 ghost use Rattle.desk.specs.Inside.{Placed, Figured};
@@ -72,7 +71,7 @@ fn adjust_all(b: Frame, c: Sums, spots: &[i64], runs: &[u64], words: &mut [i64])
 }
 
 // From the azimuths and distances of the legs, by the sines of a lent table.
-pub fn settle_in(
+pub fn settle(
     table: &[u32; ENTRIES],
     b: Frame,
     azimuths: &[u32],
@@ -100,19 +99,4 @@ pub fn settle_in(
         number: BAD_CLOSURE,
         place: b.place,
     }
-}
-
-// The same by the desk's own table, which is laid out only here: a tape has come so far that a sine
-// is needed.
-pub fn settle(b: Frame, azimuths: &[u32], distances: &[u32], words: &mut [i64]) -> Answer
-    requires { ⌜ Sound (withLegs b (now azimuths) (now distances)) ⌝ }
-    requires { ⌜ (mostLegs ≤ length (now azimuths)) × (mostLegs ≤ length (now distances)) ⌝ }
-    requires { ⌜ stationWords ≤ length (now words) ⌝ }
-    ensures answer { λ r. ⌜ told r
-        ≡ second entry (withLegs b (now (azimuths .entry)) (now (distances .entry))) ⌝ }
-    ensures words { λ r. ⌜ now (words .exit)
-        ≡ secondWords entry (withLegs b (now (azimuths .entry)) (now (distances .entry)))
-        (now (words .entry)) ⌝ }
-{
-    settle_in(&minutes::table(), b, azimuths, distances, words)
 }

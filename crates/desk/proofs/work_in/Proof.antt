@@ -19,14 +19,14 @@ enum-known-checked c = search needs
 enum-known-checked-2 : tie.Need-enum-known-checked-2
 enum-known-checked-2 c = search needs
 
-slice-aggregate-settle-in : tie.Need-slice-aggregate-settle-in
-slice-aggregate-settle-in c = search needs
+slice-aggregate-settle : tie.Need-slice-aggregate-settle
+slice-aggregate-settle c = search needs
 
-slice-aggregate-settle-in-2 : tie.Need-slice-aggregate-settle-in-2
-slice-aggregate-settle-in-2 c = search needs
+slice-aggregate-settle-2 : tie.Need-slice-aggregate-settle-2
+slice-aggregate-settle-2 c = search needs
 
-settle-in-requires : tie.Need-settle-in-requires
-settle-in-requires c κs = (search first-sound, (search needs, search needs))
+settle-requires : tie.Need-settle-requires
+settle-requires c κs = (search first-sound, (search needs, search needs))
 
 returns : tie.Need-returns
 returns c = (search stopped-told, search stopped-words)
@@ -46,9 +46,9 @@ work-in-spec =
     check-angles-requires
     enum-known-checked
     enum-known-checked-2
-    slice-aggregate-settle-in
-    slice-aggregate-settle-in-2
-    settle-in-requires
+    slice-aggregate-settle
+    slice-aggregate-settle-2
+    settle-requires
     returns
     same-length
     returns-2)
