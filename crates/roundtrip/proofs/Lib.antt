@@ -1,0 +1,3 @@
+pub mod RoundTrip
+pub mod Writing
+pub mod Given
