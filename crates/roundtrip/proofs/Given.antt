@@ -1,12 +1,11 @@
--- Every record of a tape that reads is one that `write` can be given. Its numbers are what its own
--- bytes say, so they are natural numbers, but for the elevation, and below what the bytes can count.
+-- Every record of a tape that reads is one that `write` can be given: its numbers are what its
+-- bytes say, natural numbers but for the elevation, and below what two or four bytes can count.
 use Prim.Native.Nat.{ℕ}
 use native.Mathlib.Omega.{arith}
 use mathlib.Core.Path.{_≡_, refl, ap}
 use mathlib.Core.Bool.{true}
 use mathlib.Core.List.{List, [], _∷_, _++_}
-use lib.IntN.{ℤ, pos, natAbs}
-use lib.ListN.{getD}
+use lib.IntN.{ℤ, pos}
 use Rattle.whole.proofs.Machine.{sfits}
 use Rattle.records.specs.declared.Record.{Record}
 use Rattle.records.specs.declared.Record.the-variants as kinds
@@ -15,7 +14,7 @@ use Rattle.records.specs.Record.{Rec, rec, rowKind, projectKind, startKind, leg
 use Rattle.records.specs.Record.{table, fieldsOf, numbersOf, goodOf, bytesOf, recOf, goodRecord}
 use Rattle.records.proofs.Bodies.{project-feet}
 use Rattle.tape.specs.Tape.{recordsOf}
-use Rattle.tape.specs.Fields.{DoesRead}
+use Rattle.tape.specs.Fields.{number, DoesRead}
 use Rattle.tape.specs.Legs.{Good, Legs, last, leg, Order, row, opens}
 use Rattle.tape.proofs.Back.{numbers-back}
 use Rattle.tape.proofs.Ordered.{order-of}
@@ -36,8 +35,7 @@ row-made vs g =
 project-made : Made projectKind
 unfolding recOf numbersOf fieldsOf table
 project-made vs g =
-    let b = bytesOf projectKind vs ++ [] in
-    (
+    let b = bytesOf projectKind vs ++ [] in (
       kinds.Project (num two b 1) (record { v = meant twosComplement two (num two b 3) }),
       unfold meant in (ap (rec projectKind) (numbers-back projectKind vs [] g)),
     )
@@ -45,8 +43,7 @@ project-made vs g =
 start-made : Made startKind
 unfolding recOf numbersOf fieldsOf table meant
 start-made vs g =
-    let b = bytesOf startKind vs ++ [] in
-    (
+    let b = bytesOf startKind vs ++ [] in (
       kinds.Start (num four b 1) (num four b 5) (num four b 9),
       ap (rec startKind) (numbers-back startKind vs [] g),
     )
@@ -60,16 +57,15 @@ leg-made vs g =
 close-made : Made closeKind
 unfolding recOf numbersOf fieldsOf table meant
 close-made vs g =
-    let b = bytesOf closeKind vs ++ [] in
-    (
+    let b = bytesOf closeKind vs ++ [] in (
       kinds.Close (num four b 1) (num four b 5) (num four b 9) (num four b 13),
       ap (rec closeKind) (numbers-back closeKind vs [] g),
     )
 
 -- ---- a record in range holds numbers of its types: each comes back from its two or four bytes
 number-back : (k : ℕ) (vs : List ℤ) → goodOf k vs ≡ true → (i : ℕ)
-    → natAbs (getD (numbersOf k (bytesOf k vs ++ [])) i (pos 0)) ≡ natAbs (getD vs i (pos 0))
-number-back k vs g i = ap (λ (l : List ℤ). natAbs (getD l i (pos 0))) (numbers-back k vs [] g)
+    → number (rec k (numbersOf k (bytesOf k vs ++ []))) i ≡ number (rec k vs) i
+number-back k vs g i = ap (λ (l : List ℤ). number (rec k l) i) (numbers-back k vs [] g)
 
 held : (r : Record) → goodRecord r ≡ true → Held r
 unfolding recOf numbersOf bytesOf fieldsOf table num bytes meant written
@@ -77,8 +73,7 @@ held (kinds.Row m f) g =
     let back = number-back rowKind (pos m ∷ pos f ∷ []) g in
     (omega (arith, back 0), omega (arith, back 1))
 held (kinds.Project m e) g =
-    let back = number-back projectKind (pos m ∷ e .v ∷ []) g in
-    (
+    let back = number-back projectKind (pos m ∷ e .v ∷ []) g in (
       omega (arith, back 0),
       sfits (e .v) (omega (arith, project-feet (kinds.Project m e) m e refl g)),
     )

@@ -1,3 +1,3 @@
+pub mod Given
 pub mod RoundTrip
 pub mod Writing
-pub mod Given

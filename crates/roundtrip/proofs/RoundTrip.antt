@@ -53,8 +53,8 @@ module _ (tape : List ℕ) (r : Taken) (c : Control) (is : r ≡ takenOf tape) (
   does : DoesRead tape
   does = took tape c (sym is ∙ reads) .0
 
-  pub its-fields : Writable (recordsOf tape)
-  its-fields = writable tape does
+  pub its-records : Writable (recordsOf tape)
+  its-records = writable tape does
 
   pub written-again : (rs : List Record) (out left : List ℕ) (w : Written)
       → recs rs ≡ recordsOf tape → length tape ≤ length out

@@ -17,9 +17,10 @@ use Rattle.tape.specs.declared.Reading.the-variants.{Reads}
 use Rattle.tape.specs.Tape.{readingOf, recordsOf}
 use Rattle.tape.specs.Legs.{Good}
 
--- ---- "Fields written as a tape": each record is given to `write`, the first at a place of the lent
--- bytes, each next one at the place that `write` returned. At a refusal the writing stops. Named are
--- the bytes and the place before, the records, the bytes afterwards and the last answer
+-- ---- "Fields written as a tape": each record is given to `write`, the first at a place of the
+-- lent bytes, each next one at the place that `write` answered, until all are written or one is
+-- refused. `Writes out at rs left w`: from the bytes out and the place at on, the records rs leave
+-- the bytes left, and w is the last answer
 pub data Writes : List ℕ → ℕ → List Record → List ℕ → Written → Type 0 where
   none : {out : List ℕ} {at : ℕ} → Writes out at [] out (Until at)
   next : {out mid left : List ℕ} {at n : ℕ} (r : Record) {rs : List Record} {w : Written}
