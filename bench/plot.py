@@ -14,8 +14,8 @@ Curve = list[tuple[float, float]]
 
 PANELS = {"legs": "legs (2 rows)", "rows": "rows (4 legs)"}
 FORMS = {
-    "desk": ("proved desk", "#b91c1c"),
-    "table lent": ("proved desk, table of sines lent", "#1d4ed8"),
+    "own": ("proved desk, a table of sines for each call", "#b91c1c"),
+    "lent": ("proved desk, table of sines lent", "#1d4ed8"),
     "plain C": ("plain C", "#15803d"),
 }
 WIDE, HIGH = 340, 240  # a panel's axes
@@ -25,13 +25,14 @@ LABEL_APART = 13
 
 
 def read(lines: Iterable[str]) -> tuple[str, dict[str, dict[str, Curve]]]:
-    """The unit, and the curves of each panel. Nothing but refusals stands at 0, which is left out."""
-    _, *later = rows = list(csv.reader(lines))
+    """The unit, and the curves of each panel. Nothing but refusals stands at 0: left out."""
+    rows = list(csv.DictReader(lines))
     curves: dict[str, dict[str, Curve]] = {panel: {form: [] for form in FORMS} for panel in PANELS}
-    for table, at, form, cost in later:
-        if table in PANELS and float(at) > 0:
-            curves[table][form].append((float(at), float(cost)))
-    return rows[0][3], curves
+    for row in rows:
+        if row["table"] in PANELS and float(row["at"]) > 0:
+            for form, curve in curves[row["table"]].items():
+                curve.append((float(row["at"]), float(row[form])))
+    return rows[0]["unit"], curves
 
 
 def step(most: float) -> float:
@@ -42,8 +43,9 @@ def step(most: float) -> float:
     return next(size * part for part in (0.1, 0.2, 0.25, 0.5, 1, 2) if size * part * 8 >= most)
 
 
-def text(x: float, y: float, said: str, anchor: str = "middle", colour: str = INK, more: str = "") -> str:
-    return f'<text x="{x:.1f}" y="{y:.1f}" text-anchor="{anchor}" fill="{colour}"{more}>{escape(said)}</text>'
+def text(x: float, y: float, said: str, anchor: str = "middle", colour: str = INK) -> str:
+    place = f'x="{x:.1f}" y="{y:.1f}" text-anchor="{anchor}"'
+    return f'<text {place} fill="{colour}">{escape(said)}</text>'
 
 
 def line(x1: float, y1: float, x2: float, y2: float, colour: str) -> str:
@@ -59,7 +61,7 @@ def apart(heights: list[float]) -> list[float]:
 
 
 def panel(left: float, name: str, unit: str, curves: dict[str, Curve]) -> Iterator[str]:
-    """The axes, the curves, and behind each curve its last cost."""
+    """The axes, the curves, and beside each curve's end its last cost."""
     points = [point for curve in curves.values() for point in curve]
     most_x, most_y = max(x for x, _ in points), max(y for _, y in points)
     step_x, step_y = step(most_x), step(most_y)
@@ -86,7 +88,8 @@ def panel(left: float, name: str, unit: str, curves: dict[str, Curve]) -> Iterat
         places = [place(x, y) for x, y in sorted(curve)]
         path = " ".join(f"{x:.1f},{y:.1f}" for x, y in places)
         yield f'<polyline points="{path}" fill="none" stroke="{colour}" stroke-width="1.8"/>'
-        yield from (f'<circle cx="{x:.1f}" cy="{y:.1f}" r="2.6" fill="{colour}"/>' for x, y in places)
+        for x, y in places:
+            yield f'<circle cx="{x:.1f}" cy="{y:.1f}" r="2.6" fill="{colour}"/>'
         ends.append((places[-1][1] + 4, f"{max(curve)[1]:,.0f}", colour))
     ends.sort(reverse=True)
     for height, (_, said, colour) in zip(apart([end[0] for end in ends]), ends):
@@ -96,7 +99,8 @@ def panel(left: float, name: str, unit: str, curves: dict[str, Curve]) -> Iterat
 def legend(y: float) -> Iterator[str]:
     x: float = LEFT
     for said, colour in FORMS.values():
-        yield f'<line x1="{x}" y1="{y}" x2="{x + 22}" y2="{y}" stroke="{colour}" stroke-width="1.8"/>'
+        ends = f'x1="{x}" y1="{y}" x2="{x + 22}" y2="{y}"'
+        yield f'<line {ends} stroke="{colour}" stroke-width="1.8"/>'
         yield text(x + 28, y + 4, said, "start")
         x += 60 + 7 * len(said)
 
@@ -104,7 +108,8 @@ def legend(y: float) -> Iterator[str]:
 def picture(unit: str, curves: dict[str, dict[str, Curve]]) -> str:
     wide, high = LEFT + len(PANELS) * (WIDE + GAP), TOP + HIGH + FOOT
     parts = [
-        f'<svg xmlns="http://www.w3.org/2000/svg" viewBox="0 0 {wide} {high}" font-family="sans-serif" font-size="12">',
+        f'<svg xmlns="http://www.w3.org/2000/svg" viewBox="0 0 {wide} {high}"'
+        ' font-family="sans-serif" font-size="12">',
         f"<title>What a traverse costs, in {escape(unit)} a call</title>",
         f'<rect width="{wide}" height="{high}" fill="#ffffff"/>',
     ]

@@ -1,47 +1,95 @@
-/* The desk from C, or C++: a tape on standard input, its sheet on standard output.
+/* The desk from C, or C++: tapes in, their sheets out.
  *
  *     rt staticlib desk_abi
  *     gcc -Iinclude examples/sheet.c target/staticlib/libdesk_abi.a -o target/sheet
  *     target/sheet < examples/yard.tape
+ *     target/sheet examples/yard.tape examples/hill_yard.tape
  *
- * The library is for x86-64. The program ends with 0 where a sheet is printed, with 1 where the tape is refused, with 2 where it could not be
- * read or the answer not be written.
+ * A tape is read from each file that is named, or from standard input where none is. Sheets are
+ * printed in that order, one after the other; a refused tape has one line instead, REFUSED and the
+ * refusal's number, and standard error says of which tape it is, and at which byte.
+ *
+ * The library is for x86-64. The program ends with 0 where every tape has its sheet, with 1 where
+ * one is refused, with 2 where one could not be read or an answer not be written.
  */
+#include <errno.h>
 #include <stdio.h>
+#include <string.h>
 
 #include "vastrudhil.h"
 
-/* The longest tape that can be accepted has 4811 bytes: 600 rows, project, start, 64 legs, close. A longer one is refused for what stands in
- * its first 4812, so this much of it is enough, and nothing is allocated. */
+/* The longest tape that can be accepted has 4811 bytes: 600 rows, project, start, 64 legs, close. A
+ * longer one is refused for what stands in its first 4812, so this much of it is enough, and
+ * nothing is allocated. */
 enum { TAPE = 8192 };
 
-int main(void)
+/* How the program ends: the worst that any of its tapes met. */
+enum { PRINTED = 0, REFUSED = 1, FAILED = 2 };
+
+/* The desk's table of sines, 21 KB that no call changes. */
+static uint32_t sines[VAS_TABLE];
+
+/* Says why a tape cannot be read. */
+static int unread(const char *name)
+{
+    fprintf(stderr, "sheet: %s: %s\n", name, strerror(errno));
+    return FAILED;
+}
+
+/* One tape, and its sheet or its refusal on standard output. */
+static int work(const char *name, FILE *file)
 {
     uint8_t tape[TAPE];
     uint8_t text[VAS_SHEET]; /* with a byte less the answer would be refusal 1 */
     size_t place = 0, length = 0;
-    size_t tape_len = fread(tape, 1, sizeof tape, stdin);
+    size_t tape_len = fread(tape, 1, sizeof tape, file);
 
-    if (ferror(stdin)) {
-        perror("sheet: standard input");
-        return 2;
-    }
+    if (ferror(file))
+        return unread(name);
 
-    /* One call for all: it reads the tape, adjusts the traverse and writes the text. The number is 0 or says which of the nine refusals it is;
-     * place says at which byte of the tape. */
-    uint32_t number = vas_sheet(tape, tape_len, text, sizeof text, &place, &length);
+    /* One call for all: it reads the tape, adjusts the traverse and writes the text. The number is
+     * 0 or says which of the nine refusals it is; place says at which byte of the tape. For a
+     * single tape vas_sheet does the same without a table; it then lays out one of its own. */
+    uint32_t number = vas_sheet_in(sines, tape, tape_len, text, sizeof text, &place, &length);
 
     if (number != 0) {
         printf("REFUSED %u\n", (unsigned)number);
-        fprintf(stderr, "sheet: refusal %u at byte %zu of the tape\n", (unsigned)number, place);
-    } else {
-        /* The text has no 0 behind it: its length says where it ends. */
-        fwrite(text, 1, length, stdout);
+        fprintf(stderr, "sheet: refusal %u at byte %zu of %s\n", (unsigned)number, place, name);
+        return REFUSED;
+    }
+    /* The text has no 0 after it: its length says where it ends. */
+    fwrite(text, 1, length, stdout);
+    return PRINTED;
+}
+
+/* The tape of a file. */
+static int work_file(const char *name)
+{
+    FILE *file = fopen(name, "rb");
+    if (file == NULL)
+        return unread(name);
+    int end = work(name, file);
+    fclose(file);
+    return end;
+}
+
+int main(int argc, char **argv)
+{
+    int end = PRINTED;
+
+    /* The table is taken once, and lent for every tape. */
+    vas_table(sines);
+    if (argc < 2)
+        end = work("standard input", stdin);
+    for (int i = 1; i < argc; i++) {
+        int one = work_file(argv[i]);
+        if (one > end)
+            end = one;
     }
 
     if (fflush(stdout) != 0 || ferror(stdout)) {
         perror("sheet: standard output");
-        return 2;
+        return FAILED;
     }
-    return number == 0 ? 0 : 1;
+    return end;
 }

@@ -10,7 +10,7 @@ ROOT = Path(__file__).resolve().parent.parent
 DEFINED = (
     re.compile(r"^\s*(?:(?:pub|abbrev|unfoldable|record|data|ruleset)\s+)*([^\s:(){}=]+)\s*(?:\(.*\)\s*)?:(?:\s|$)", re.M),  # antt: a signature
     re.compile(r"^\s*(?:pub\s+)?(?:record|data|ruleset)\s+([^\s({:]+)", re.M),  # antt: a type or a set of rules
-    re.compile(r"\b(?:fn|struct|enum|mod)\s+(\w+)"),  # Rattle
+    re.compile(r"\b(?:fn|struct|enum|mod)\s+(\w+)"),  # Rattle and Rust
     re.compile(r"^\s*(?:pub\s+)?(\w+):\s", re.M),  # Rattle: a field
     re.compile(r"^\s*(\w+)\s*[({,]", re.M),  # Rattle: a case of an enum
     re.compile(r"^(?:def|class)\s+(\w+)|^([A-Z_]+) =", re.M),  # Python
@@ -23,9 +23,9 @@ def sources() -> list[Path]:
     """All files of the repository that may define something."""
     return [
         path
-        for folder in ("crates", "second", "tools")
+        for folder in ("crates", "rust", "second", "tools")
         for path in (ROOT / folder).rglob("*")
-        if path.suffix in (".rt", ".antt", ".py") and "target" not in path.parts
+        if path.suffix in (".rt", ".rs", ".antt", ".py") and "target" not in path.parts
     ]
 
 

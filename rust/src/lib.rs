@@ -36,18 +36,25 @@
 //! coordinates, closures, latitudes and departures in hundredths of a foot; distances in
 //! thousandths of a foot; factors in ten-millionths; sines in units of the ninth decimal.
 //!
-//! # One table for many calls
+//! # Many tapes
 //!
-//! The functions that need sines work out each entry of the desk's table that they need. The forms
-//! that end in `_in` are lent a [`Table`] instead, answer the same, and take a quarter less time.
+//! A function that needs sines lays out the desk's table of them, once in a call. A program that
+//! works many tapes makes a [`Desk`], which holds the table, and calls its methods: they answer the
+//! same and take less time and less stack. Threads may share one desk.
 //!
 //! ```
-//! use vastrudhil::{sine, sine_in, Table};
+//! use vastrudhil::{Desk, Refusal};
 //!
-//! let table = Table::new();
-//! assert_eq!(sine_in(&table, 1_080_000), Ok(500_000_000)); // 30 degrees
-//! assert_eq!(sine_in(&table, 1_080_000), sine(1_080_000));
+//! fn sheets(tapes: &[Vec<u8>]) -> Vec<Result<String, Refusal>> {
+//!     let desk = Desk::new();
+//!     tapes.iter().map(|tape| desk.sheet(tape)).collect()
+//! }
+//! # let tapes = [include_bytes!("../../examples/yard.tape").to_vec(), Vec::new()];
+//! # let alone: Vec<_> = tapes.iter().map(|tape| vastrudhil::sheet(tape)).collect();
+//! # assert_eq!(sheets(&tapes), alone);
 //! ```
+//!
+//! The functions that end in `_in` do what those methods do, by a [`Table`] that is lent to them.
 
 #![deny(missing_docs)]
 
@@ -136,7 +143,7 @@ pub fn grid(distance: u64, factor: u64) -> Result<u64, Refusal> {
 /// The desk's own table of sines, one for every whole minute from 0 to 90 degrees.
 ///
 /// There is no other way to make one, so that what is answered with it is what the desk answers.
-#[derive(Clone, Debug, PartialEq, Eq)]
+#[derive(Clone, PartialEq, Eq)]
 pub struct Table(Box<[u32; sys::TABLE]>);
 
 impl Table {
@@ -156,6 +163,13 @@ impl Table {
 impl Default for Table {
     fn default() -> Self {
         Self::new()
+    }
+}
+
+/// Without its entries: every table has the same 5,401.
+impl fmt::Debug for Table {
+    fn fmt(&self, f: &mut fmt::Formatter<'_>) -> fmt::Result {
+        f.debug_struct("Table").finish_non_exhaustive()
     }
 }
 
@@ -265,7 +279,7 @@ pub fn doubled_area(offsets: &[[i64; 2]]) -> Result<i64, Refusal> {
 
 // ---- writing a tape (paper 01, The tape)
 
-/// A tape under way: records are put behind one another, each by the desk's own writer.
+/// A tape under way: records are put one after the other, each by the desk's own writer.
 ///
 /// The writer tests each record by itself. Whether the records make a tape together, [`read`] says.
 #[derive(Clone, Debug, Default, PartialEq, Eq)]
@@ -449,7 +463,7 @@ pub fn sheet_in(table: &Table, tape: &[u8]) -> Result<String, Refusal> {
 }
 
 /// The sheet of a tape, written at the front of lent memory of [`SHEET`] bytes or more; less is
-/// refused with 1. What stands behind the text is left as it was, and on a refusal all of it is.
+/// refused with 1. What stands after the text is left as it was, and on a refusal all of it is.
 pub fn sheet_into<'a>(tape: &[u8], out: &'a mut [u8]) -> Result<&'a str, Refusal> {
     let (tape, tape_len) = (tape.as_ptr(), tape.len());
     // SAFETY: pointers and lengths are those of the tape, and of `out`, which `shown` lends on.
@@ -469,4 +483,84 @@ pub fn sheet_into_in<'a>(
     shown(out, |out, len, place, length| unsafe {
         sys::vas_sheet_in(&table.0, tape, tape_len, out, len, place, length)
     })
+}
+
+// ---- many tapes
+
+/// The desk with its table of sines, for programs that work many tapes.
+///
+/// Each method answers what the function of the same name answers, for every input. The function
+/// lays out the table in each call; a desk does it once, when it is made, in 21 KB of its own that
+/// do not move with it. No method changes a desk, so threads may share one by reference. Steps that
+/// need no sine are functions only.
+///
+/// ```
+/// # fn main() -> Result<(), vastrudhil::Refusal> {
+/// use std::thread;
+/// use vastrudhil::{traverse, Desk};
+///
+/// let desk = Desk::new();
+/// let yard = include_bytes!("../../examples/yard.tape");
+/// let adjusted = desk.traverse(yard)?;
+/// assert_eq!(adjusted.precision, 178_886);
+/// assert_eq!(Ok(&adjusted), traverse(yard).as_ref());
+///
+/// thread::scope(|scope| {
+///     for _ in 0..2 {
+///         scope.spawn(|| assert_eq!(desk.traverse(yard).as_ref(), Ok(&adjusted)));
+///     }
+/// });
+/// # Ok(())
+/// # }
+/// ```
+#[derive(Clone, Debug, Default)]
+pub struct Desk {
+    table: Table,
+}
+
+impl Desk {
+    /// A desk, its table laid out.
+    pub fn new() -> Self {
+        Self::default()
+    }
+
+    /// The table, to be lent to the functions that end in `_in`.
+    pub fn table(&self) -> &Table {
+        &self.table
+    }
+
+    /// The adjusted traverse of a tape, or one of refusals 2 to 9: [`traverse`].
+    pub fn traverse(&self, tape: &[u8]) -> Result<Traverse, Refusal> {
+        traverse_in(&self.table, tape)
+    }
+
+    /// The sheet of a tape, or one of refusals 2 to 9: [`sheet`].
+    pub fn sheet(&self, tape: &[u8]) -> Result<String, Refusal> {
+        sheet_in(&self.table, tape)
+    }
+
+    /// The sheet of a tape, written at the front of lent memory: [`sheet_into`].
+    pub fn sheet_into<'a>(&self, tape: &[u8], out: &'a mut [u8]) -> Result<&'a str, Refusal> {
+        sheet_into_in(&self.table, tape, out)
+    }
+
+    /// The sine of an angle: [`sine`].
+    pub fn sine(&self, angle: u32) -> Result<i64, Refusal> {
+        sine_in(&self.table, angle)
+    }
+
+    /// The cosine of an angle: [`cosine`].
+    pub fn cosine(&self, angle: u32) -> Result<i64, Refusal> {
+        cosine_in(&self.table, angle)
+    }
+
+    /// The latitude of a grid distance along an azimuth: [`latitude`].
+    pub fn latitude(&self, distance: u64, azimuth: u32) -> Result<i64, Refusal> {
+        latitude_in(&self.table, distance, azimuth)
+    }
+
+    /// The departure of a grid distance along an azimuth: [`departure`].
+    pub fn departure(&self, distance: u64, azimuth: u32) -> Result<i64, Refusal> {
+        departure_in(&self.table, distance, azimuth)
+    }
 }

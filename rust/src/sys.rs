@@ -16,7 +16,7 @@ pub const LOOP: usize = 6;
 
 // SAFETY: these are the library's own declarations. It takes any numbers, keeps no pointer and has
 // no state, so a function that is lent only references is safe to call; the others ask that a
-// pointer has as many items as the length behind it says, and that nothing written is also read.
+// pointer has as many items as the length after it says, and that nothing written is also read.
 unsafe extern "C" {
     // distances
     pub safe fn vas_sea_level(elevation: i64, value: &mut u64) -> u32;

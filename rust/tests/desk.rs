@@ -67,6 +67,13 @@ fn bad_tapes() -> Vec<(u32, usize, Vec<u8>)> {
     ]
 }
 
+/// Tapes of every answer: each that is refused, the printed one, and one that is no loop.
+fn tapes() -> Vec<Vec<u8>> {
+    let line = closing(90 * DEGREE + 5, 5_000_001, 200_000_000, 0);
+    let refused = bad_tapes().into_iter().map(|(.., tape)| tape);
+    refused.chain([yard(), line]).collect()
+}
+
 const PRINTED: &str = "\
 CLOSE W=+0.5 N=-0.01 E=+0.02 P=178886
 0 50000.00 2000000.00
@@ -303,16 +310,52 @@ fn a_lent_table_answers_as_the_own() {
     assert_eq!(sheet_in(&table, &yard()), sheet(&yard()));
 }
 
+// ---- many tapes
+
+#[test]
+fn a_desk_answers_every_tape_as_the_functions_do() {
+    let desk = Desk::new();
+    for tape in tapes() {
+        assert_eq!(desk.traverse(&tape), traverse(&tape));
+        assert_eq!(desk.sheet(&tape), sheet(&tape));
+        let mut lent = [[7; SHEET + 1]; 2];
+        let [by_desk, by_function] = &mut lent;
+        assert_eq!(
+            desk.sheet_into(&tape, by_desk),
+            sheet_into(&tape, by_function)
+        );
+        assert_eq!(by_desk, by_function);
+        assert_eq!(desk.sheet_into(&tape, &mut [7; SHEET - 1]), refused(1, 0));
+    }
+}
+
+#[test]
+fn a_desk_answers_every_step_as_the_functions_do() {
+    let desk = Desk::default();
+    for angle in (0..12_970_000).step_by(9_973) {
+        assert_eq!(desk.sine(angle), sine(angle));
+        assert_eq!(desk.cosine(angle), cosine(angle));
+        for distance in [0, 5_387_658, 20_100_000, 20_100_001] {
+            assert_eq!(desk.latitude(distance, angle), latitude(distance, angle));
+            assert_eq!(desk.departure(distance, angle), departure(distance, angle));
+        }
+    }
+    assert_eq!(desk.table(), &Table::new());
+}
+
+#[test]
+fn a_desk_can_be_given_to_a_thread() {
+    let desk = Desk::new();
+    let given = thread::spawn(move || desk.sheet(&yard()));
+    assert_eq!(given.join().expect("no panic").as_deref(), Ok(PRINTED));
+}
+
 // ---- threads
 
 #[test]
 fn two_threads_at_once() {
-    let table = Table::new();
-    let tapes: Vec<_> = bad_tapes()
-        .into_iter()
-        .map(|(.., tape)| tape)
-        .chain([yard()])
-        .collect();
+    let desk = Desk::new();
+    let tapes = tapes();
     let alone: Vec<_> = tapes
         .iter()
         .map(|tape| (traverse(tape), sheet(tape)))
@@ -325,7 +368,7 @@ fn two_threads_at_once() {
                 for _ in 0..100 {
                     for (tape, alone) in tapes.iter().zip(&alone) {
                         assert_eq!(&(traverse(tape), sheet(tape)), alone);
-                        assert_eq!(&(traverse_in(&table, tape), sheet_in(&table, tape)), alone);
+                        assert_eq!(&(desk.traverse(tape), desk.sheet(tape)), alone);
                     }
                 }
             });
