@@ -21,11 +21,14 @@ abbrev pub traverseOf : List ℕ → Balanced
 traverseOf tape = balancedTraverse (fieldsOf tape)
 
 -- how many line feeds stand in some bytes
+abbrev pub lineFeed : ℕ
+lineFeed = 10
+
 unfoldable pub feeds : List ℕ → ℕ
 feeds [] = 0
-feeds (c ∷ cs) = cond (eqb c 10) 1 0 + feeds cs
+feeds (c ∷ cs) = cond (eqb c lineFeed) 1 0 + feeds cs
 
--- in the bytes of a sheet of the tape stands the line of station k, and the northing and the
+-- in the bytes of a sheet stands the line of station k of the tape, and the northing and the
 -- easting read from it stand within the bound of the unrounded ones; at both ends they are the
 -- fixed ones
 pub record PrintedWithin (tape sheet : List ℕ) (k : ℕ) : Type 0 where

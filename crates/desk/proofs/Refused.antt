@@ -8,7 +8,6 @@ use mathlib.Core.List.{List}
 use lib.Dec.{ltb, eqb}
 use lib.ListN.{length}
 use lib.IntN.{ℤ}
-use borrow.Author.Tests.{eqb-true}
 use Rattle.whole.proofs.Branch.{by-test}
 use Rattle.desk.specs.declared.Answer.{Answer}
 use Rattle.desk.specs.declared.Answer.the-variants as answer
@@ -18,9 +17,8 @@ use Rattle.desk.specs.Angles.{Balanced}
 use Rattle.desk.specs.Answer.{refused, told, First, stopped, good, firstFor, closesOn, second}
 use Rattle.desk.specs.Answer.{secondWords, afterFirst, wordsAfterFirst}
 use Rattle.desk.specs.Answer.{traversedBy, traversedWordsBy}
-use Rattle.desk.specs.Sheet.{textOf, over, shown, shownBytes, sheetBytes, answered, stations}
-use Rattle.desk.specs.Sheet.{paged, pagedBytes, Showed}
-use Rattle.desk.specs.Sheet.{told as toldPage}
+use Rattle.desk.specs.Sheet.{shown, shownBytes, sheetBytes, answered, paged, pagedBytes}
+use Rattle.desk.specs.Sheet.{Showed, told as toldPage}
 
 -- ---- the traverse
 module _ (e : ℕ → ℤ) (words : List ℤ) where

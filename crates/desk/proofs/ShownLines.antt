@@ -9,8 +9,9 @@ use mathlib.Core.Bool.{true, false}
 use mathlib.Core.List.{List, [], _++_, append-assoc, append-nil}
 use mathlib.Core.Logic.{⊎-elim}
 use lib.Dec.{ltb, eqb}
-use lib.ListN.{length, drop}
+use lib.ListN.{length, take, drop}
 use lib.IntN.{ℤ}
+use lib.Seq.{take-append-seam}
 use borrow.Author.Tests.{eqb-true, eqb-false}
 use Rattle.whole.proofs.Branch.{by-test}
 use Rattle.desk.specs.declared.Page.{Page}
@@ -38,13 +39,12 @@ abbrev pub linesBefore : Traversed → List ℤ → ℕ → List ℕ
 linesBefore t words k =
     closeLine (t .w) (t .north) (t .east) (t .precision) ++ stationLines words k
 
-line-in-text : (t : Traversed) (words : List ℤ) (rest : List ℕ) (k : ℕ) → k ≤ t .legs
-    → (after : List ℕ)
-    × (textOf t words ++ rest ≡ linesBefore t words k ++ lineOf words k ++ after)
+pub line-in-text : (t : Traversed) (words : List ℤ) (k : ℕ) → k ≤ t .legs
+    → (after : List ℕ) × (textOf t words ≡ linesBefore t words k ++ lineOf words k ++ after)
 unfolding textOf
-line-in-text t words rest k h =
+line-in-text t words k h =
     let r = line-among words k (t .legs + 1) (omega arith) in
-    (r .0 ++ (areaLine (t .area) (t .loop) ++ rest), rw (r .1) (simp append-assoc))
+    (r .0 ++ areaLine (t .area) (t .loop), rw (r .1) (simp append-assoc))
 
 -- ---- what the sheet step leaves where its number is 0
 module _ (e : ℕ → ℤ) (tape out left : List ℕ) (r : Page) (s : Showed e tape out left r)
@@ -69,13 +69,10 @@ module _ (e : ℕ → ℤ) (tape out left : List ℕ) (r : Page) (s : Showed e t
   unfolding pagedBytes shownBytes
   showed-text = s .left ∙ rw (passed .0, passed .1)
 
-  -- and in it the line of each station
-  pub showed-line : (k : ℕ) → k ≤ answered e tape .legs
-      → (after : List ℕ)
-      × (left ≡ linesBefore (answered e tape) (stations e tape) k
-      ++ lineOf (stations e tape) k ++ after)
-  showed-line k h =
-      let t = answered e tape in
-      let words = stations e tape in
-      let i = line-in-text t words (drop (length (textOf t words)) out) k h in
-      (i .0, showed-text ∙ i .1)
+  -- and it is as many bytes as are told
+  pub showed-sheet : take (told r .length) left ≡ textOf (answered e tape) (stations e tape)
+  unfolding paged shown
+  showed-sheet =
+      let text = textOf (answered e tape) (stations e tape) in
+      let long : told r .length ≡ length text = rw (s .answer, passed .0, passed .1) in
+      rw (long, showed-text) (take-append-seam text (drop (length text) out))
