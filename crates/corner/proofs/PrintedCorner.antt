@@ -10,8 +10,9 @@ use lib.IntN.{ℤ, pos}
 use Rattle.minutes.specs.Entry.{entry}
 use Rattle.steps.specs.Course.{Axis}
 use Rattle.tape.specs.Fields.{fieldsOf}
+use Rattle.text.specs.Read.{amountRead}
 use Rattle.text.specs.Text.{plain}
-use Rattle.text.proofs.ReadBack.{amountRead, plain-back}
+use Rattle.text.proofs.ReadBack.{plain-back}
 use Rattle.desk.specs.declared.Page.{Page}
 use Rattle.desk.specs.Angles.{Balanced, balancedTraverse}
 use Rattle.desk.specs.Sheet.{footDecimals, stationLine, lineOf, textOf, ownWords, answered}

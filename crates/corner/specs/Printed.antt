@@ -9,8 +9,8 @@ use lib.Dec.{eqb}
 use lib.IntN.{pos}
 use Rattle.steps.specs.Course.{Axis, north, east}
 use Rattle.tape.specs.Fields.{fieldsOf}
+use Rattle.text.specs.Read.{amountRead}
 use Rattle.text.specs.Text.{ascii, decimal, plain}
-use Rattle.text.proofs.ReadBack.{amountRead}
 use Rattle.desk.specs.Angles.{Balanced, balancedTraverse}
 use Rattle.desk.specs.Sheet.{footDecimals}
 use Rattle.desk.specs.Traverse.{along}
