@@ -36,7 +36,7 @@ module _ (b : Balanced) (sound : Sound b) (axis : Axis) (k : ℕ) (h : k ≤ b .
   leg-off : (i : ℕ) → i < b .legs → 100 * natAbs (exactLine axis b .move i -ℤ pos fine *ℤ line entry axis b .move i) ≤ perLeg * fine
   leg-off i low = let leg = sound .leg i low in leg-near axis (longOf b i) (azimuthOf b i) (grid-most _ _ (leg .near) (leg .most)) (leg .turned)
 
-  station-near : StandsWithin (bound (b .legs) k) (adjusted (line entry axis b) k) (unroundedAt axis b k)
+  pub station-near : StandsWithin (bound (b .legs) k) (adjusted (line entry axis b) k) (unroundedAt axis b k)
   station-near =
       let m = longerSide (b .legs) k in
       let s = stands 50 perLeg fine (line entry axis b) (exactLine axis b .move) leg-off k m h (before-it (b .legs) k) (after-it (b .legs) k) (far-run b sound) in

@@ -1,3 +1,5 @@
 pub mod Spread
 pub mod Leg
 pub mod Corner
+pub mod Feeds
+pub mod PrintedCorner

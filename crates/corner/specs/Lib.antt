@@ -1,1 +1,2 @@
 pub mod Unrounded
+pub mod Printed

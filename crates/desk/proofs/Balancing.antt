@@ -108,7 +108,7 @@ module _ (r : Amount) (v : ℤ) (closing given : ℕ) (g : v ≡ told r .value) 
 -- ---- the traverse with its angles balanced
 module _ (f : Fields) where
   -- the azimuth that leg k has in it is its balanced one
-  leg-azimuth : (k : ℕ) → k < f .line .legs → f .line .legs ≤ 64
+  pub leg-azimuth : (k : ℕ) → k < f .line .legs → f .line .legs ≤ 64
       → azimuthOf (balancedTraverse f) k ≡ balancedAt (turnsOf f) (misclosureOf f) k
   unfolding balancedTraverse
   leg-azimuth k h few =

@@ -12,9 +12,12 @@ pub mod Pairs
 pub mod Printed
 pub mod PrintedSheet
 pub mod Printing
+pub mod Refused
+pub mod Rules
 pub mod Running
 pub mod Scaling
 pub mod Settling
+pub mod ShownLines
 pub mod Single
 pub mod StationLines
 pub mod Stations

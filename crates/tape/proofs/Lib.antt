@@ -3,6 +3,7 @@ pub mod Coming
 pub mod Legs
 pub mod Longest
 pub mod Numbers
+pub mod OneRow
 pub mod Ordered
 pub mod Parts
 pub mod Passing

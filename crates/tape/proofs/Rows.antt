@@ -70,7 +70,7 @@ module _ (st : State) (k : ℕ) (vs : List ℤ) (m : ℕ) where
   same-adds : (k ≡ rowKind → ⊥) → Adds st
   same-adds h = (inl, ⊎-elim (λ i. i) (λ r. absurd (h (r .0))))
 
-  taken-adds : (u : State) → Came st k vs u → Adds u
+  pub taken-adds : (u : State) → Came st k vs u → Adds u
   taken-adds u (by.row e p low follows to) = subst Adds (sym to) (row-adds e follows)
   taken-adds u (by.project e p i to) = subst Adds (sym to) (same-adds (λ f. omega arith))
   taken-adds u (by.start e p to) = subst Adds (sym to) (same-adds (λ f. omega arith))

@@ -1,30 +1,16 @@
 -- What is printed reads back as the number, so different amounts never print alike. It holds because the last k digits of n, read on from the number
 -- n / 10 ^ k before them, spell n, while the point and a plus are passed over and a minus stands first exactly where the amount is negative.
-use Prim.Native.Nat.{ℕ, zero, suc, _+_, _-_, _*_, _/_, _%_, _^_, _<_}
+use Prim.Native.Nat.{ℕ, zero, suc, _+_, _*_, _/_, _%_, _^_, _<_}
 use native.Mathlib.Omega.{arith}
 use native.Mathlib.Nat.{div-one, div-eq-of-lt}
 use mathlib.Core.Path.{_≡_, refl, sym, ap, _∙_}
-use mathlib.Core.Bool.{Bool, false, cond, _&&_}
+use mathlib.Core.Bool.{false}
 use mathlib.Core.List.{List, [], _∷_, _++_}
 use borrow.Author.Tests.{le-leb, le-ltb, ne-eqb}
-use lib.Dec.{leb, eqb}
-use lib.ListN.{getD}
-use lib.IntN.{ℤ, pos, negsuc, negℤ}
+use lib.IntN.{ℤ, pos, negsuc}
 use Rattle.text.specs.Text.{ascii, digits, places, decimal, pointed, sign, amount, signed, plain}
+use Rattle.text.specs.Read.{spelled, minus, amountRead}
 use Rattle.text.proofs.Digits.{places-hold, tenth-first}
-
--- the number that the digits of a text spell, read on from n; what is no digit is passed over
-unfoldable pub spelled : ℕ → List ℕ → ℕ
-spelled n [] = n
-spelled n (c ∷ cs) = spelled (cond (leb 48 c && leb c 57) (10 * n + (c - 48)) n) cs
-
--- whether the text begins with a minus
-abbrev minus : List ℕ → Bool
-minus l = eqb (getD l 0 0) 45
-
--- the amount: negative behind a minus
-unfoldable pub amountRead : List ℕ → ℤ
-amountRead l = cond (minus l) (negℤ (pos (spelled 0 l))) (pos (spelled 0 l))
 
 -- ---- a text behind a text
 spelled-append : (n : ℕ) (xs ys : List ℕ) → spelled n (xs ++ ys) ≡ spelled (spelled n xs) ys

@@ -1,3 +1,4 @@
+pub mod Refused
 pub mod Single
 pub mod Stores
 pub mod Ways
