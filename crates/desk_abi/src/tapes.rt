@@ -64,12 +64,12 @@ pub extern "C" fn vas_sheet(
     tape: &[u8],
     out: &mut [u8],
     place: &mut usize,
-    length: &mut usize,
+    text_len: &mut usize,
 ) -> u32
     ensures { λ r. ⌜ Shows entry (now (tape .entry)) (now (out .entry)) (now (out .exit))
-        (now (place .exit)) (now (length .exit)) r ⌝ }
+        (now (place .exit)) (now (text_len .exit)) r ⌝ }
 {
-    tell::page(desk::sheet(tape, out), place, length)
+    tell::page(desk::sheet(tape, out), place, text_len)
 }
 
 // The sheet by the sines of a lent table, whatever it holds.
@@ -79,11 +79,11 @@ pub extern "C" fn vas_sheet_in(
     tape: &[u8],
     out: &mut [u8],
     place: &mut usize,
-    length: &mut usize,
+    text_len: &mut usize,
 ) -> u32
     ensures { λ r. ⌜ Shows (entryIn (now (table .entry))) (now (tape .entry))
         (now (out .entry)) (now (out .exit))
-        (now (place .exit)) (now (length .exit)) r ⌝ }
+        (now (place .exit)) (now (text_len .exit)) r ⌝ }
 {
-    tell::page(desk::sheet_in(table, tape, out), place, length)
+    tell::page(desk::sheet_in(table, tape, out), place, text_len)
 }

@@ -1,12 +1,19 @@
--- Any two outcomes that a promise of this crate allows coincide, for every input; of `table` see minutes.
+-- Any two outcomes that a promise of this crate allows coincide, for every input.
 use mathlib.Core.Path.{_≡_, sym, _∙_}
+use mathlib.Core.List.{List}
 use Prim.Native.Nat.{ℕ}
 use lib.IntN.{ℤ}
 use Rattle.answer.specs.Told.{told}
 use Rattle.answer.specs.declared.Amount.{Amount}
 use Rattle.answer.proofs.Single.{amounts-coincide}
+use Rattle.minutes.specs.Entry.{Table}
+use Rattle.minutes.proofs.Single as minutes
 use Rattle.sines.specs.Sine.{sineBy, cosineBy, ofAngle, turnedBy}
 use Rattle.sines.specs.declared.Turned.{Turned}
+
+-- `table`
+pub table-single : (t u : List ℕ) → Table t → Table u → t ≡ u
+table-single = minutes.table-single
 
 -- `sine` and `cosine`, and with the entries of a lent table `sine_in` and `cosine_in`
 module _ (e : ℕ → ℤ) (a : ℕ) (x y : Amount) where
