@@ -31,8 +31,10 @@ def modules(source: Path, folder: Path) -> list[Path]:
     """A source and its public modules, with theirs; no source, as in a program, is none."""
     if not source.is_file():
         return []
-    names = re.findall(r"^pub mod (\w+);", source.read_text(encoding="utf-8"), re.M)
-    return [source, *(each for name in names for each in modules(folder / f"{name}.rt", folder / name))]
+    found = [source]
+    for name in re.findall(r"^pub mod (\w+);", source.read_text(encoding="utf-8"), re.M):
+        found += modules(folder / f"{name}.rt", folder / name)
+    return found
 
 
 def public(crate: Path) -> list[str]:

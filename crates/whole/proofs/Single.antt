@@ -8,8 +8,8 @@ use lib.Signed.{ltZ}
 use Rattle.whole.specs.declared.Whole.{Whole}
 use Rattle.whole.specs.Nearest.{halfUp}
 
--- `Whole::of_size`, `Whole::opposite`, `Whole::plus`, `Whole::minus` and `Whole::times`: an amount is
--- known by its number
+-- `Whole::of_size`, `Whole::opposite`, `Whole::plus`, `Whole::minus` and `Whole::times`: an amount
+-- is known by its number
 pub whole-single : (z : ℤ) (x y : Whole) → x .v ≡ z → y .v ≡ z → x ≡ y
 whole-single z x y e f = ap (λ (v : ℤ). record { v = v }) (e ∙ sym f)
 

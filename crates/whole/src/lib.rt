@@ -81,8 +81,8 @@ impl Whole {
     }
 }
 
-// n / d to the nearest whole number, for amounts that are not negative. A negative amount is rounded
-// as its size, and its caller puts the sign on (`nearest-neg`).
+// n / d to the nearest whole number, for amounts that are not negative. A negative amount is
+// rounded by its size, and the sign put on after (`nearest-neg`).
 pub fn half_up(n: u64, d: u64) -> u64
     requires { ⌜ 2 * n + d < 2 ^ 64 ⌝ }
     requires { ⌜ 0 < d ⌝ }
