@@ -171,11 +171,11 @@ uint32_t vas_read(const uint8_t *tape, size_t tape_len, size_t *place);
 uint32_t vas_traverse(const uint8_t *tape, size_t tape_len, int64_t *words, size_t words_len,
                       size_t *place, int64_t figures[VAS_FIGURES]);
 
-/* The sheet: the text of an accepted tape from out[0] on, *length bytes of it without a 0 after
+/* The sheet: the text of an accepted tape from out[0] on, *used bytes of it without a 0 after
  * them; out has VAS_SHEET bytes or more, and those after the text keep what they held. Refused with
  * 1 to 9. */
 uint32_t vas_sheet(const uint8_t *tape, size_t tape_len, uint8_t *out, size_t out_len,
-                   size_t *place, size_t *length);
+                   size_t *place, size_t *used);
 
 /* Traverse and sheet by the sines of a lent table, for programs that work many tapes. With the
  * table of vas_table the answers are those of vas_traverse and vas_sheet. */
@@ -183,7 +183,7 @@ uint32_t vas_traverse_in(const uint32_t table[VAS_TABLE], const uint8_t *tape, s
                          int64_t *words, size_t words_len, size_t *place,
                          int64_t figures[VAS_FIGURES]);
 uint32_t vas_sheet_in(const uint32_t table[VAS_TABLE], const uint8_t *tape, size_t tape_len,
-                      uint8_t *out, size_t out_len, size_t *place, size_t *length);
+                      uint8_t *out, size_t out_len, size_t *place, size_t *used);
 
 #ifdef __cplusplus
 }

@@ -447,9 +447,9 @@ fn shown(
     out: &mut [u8],
     call: impl FnOnce(*mut u8, usize, &mut usize, &mut usize) -> u32,
 ) -> Result<&str, Refusal> {
-    let mut length = 0;
-    placed(|place| call(out.as_mut_ptr(), out.len(), place, &mut length))?;
-    Ok(std::str::from_utf8(&out[..length]).expect("a sheet is in ASCII"))
+    let mut used = 0;
+    placed(|place| call(out.as_mut_ptr(), out.len(), place, &mut used))?;
+    Ok(std::str::from_utf8(&out[..used]).expect("a sheet is in ASCII"))
 }
 
 /// The sheet of a tape, or one of refusals 2 to 9.
@@ -467,8 +467,8 @@ pub fn sheet_in(table: &Table, tape: &[u8]) -> Result<String, Refusal> {
 pub fn sheet_into<'a>(tape: &[u8], out: &'a mut [u8]) -> Result<&'a str, Refusal> {
     let (tape, tape_len) = (tape.as_ptr(), tape.len());
     // SAFETY: pointers and lengths are those of the tape, and of `out`, which `shown` lends on.
-    shown(out, |out, len, place, length| unsafe {
-        sys::vas_sheet(tape, tape_len, out, len, place, length)
+    shown(out, |out, len, place, used| unsafe {
+        sys::vas_sheet(tape, tape_len, out, len, place, used)
     })
 }
 
@@ -480,8 +480,8 @@ pub fn sheet_into_in<'a>(
 ) -> Result<&'a str, Refusal> {
     let (tape, tape_len) = (tape.as_ptr(), tape.len());
     // SAFETY: as in `sheet_into`.
-    shown(out, |out, len, place, length| unsafe {
-        sys::vas_sheet_in(&table.0, tape, tape_len, out, len, place, length)
+    shown(out, |out, len, place, used| unsafe {
+        sys::vas_sheet_in(&table.0, tape, tape_len, out, len, place, used)
     })
 }
 

@@ -126,7 +126,7 @@ unsafe extern "C" {
         out: *mut u8,
         out_len: usize,
         place: &mut usize,
-        length: &mut usize,
+        used: &mut usize,
     ) -> u32;
     pub fn vas_traverse_in(
         table: &[u32; TABLE],
@@ -144,6 +144,6 @@ unsafe extern "C" {
         out: *mut u8,
         out_len: usize,
         place: &mut usize,
-        length: &mut usize,
+        used: &mut usize,
     ) -> u32;
 }

@@ -1,15 +1,20 @@
 -- What is told determines the answer: two answers that tell the same are the same. So a promise `told r ≡ ..` allows one answer only, and
 -- "any two outcomes coincide" is one of these laws at each step.
 use mathlib.Core.Path.{_≡_, refl, sym, _∙_, ap}
+use mathlib.Core.Bool.{Bool}
+use Prim.Native.Nat.{ℕ}
 use native.Mathlib.Omega.{arith}
-use lib.IntN.{ℤ, natAbs}
+use lib.IntN.{ℤ, pos, natAbs}
+use Rattle.whole.specs.declared.Whole.{Whole}
+use Rattle.whole.proofs.Single.{whole-single}
 use Rattle.answer.specs.declared.Amount.{Amount}
 use Rattle.answer.specs.declared.Amount.the-variants as amount
 use Rattle.answer.specs.declared.Count.{Count}
 use Rattle.answer.specs.declared.Count.the-variants as count
 use Rattle.answer.specs.declared.Verdict.{Verdict}
 use Rattle.answer.specs.declared.Verdict.the-variants as verdict
-use Rattle.answer.specs.Told.{Told, told, toldCount, toldVerdict}
+use Rattle.answer.specs.Told.{Told, told, toldCount, toldVerdict, passes}
+use Rattle.answer.proofs.Telling.{one-flag}
 
 -- tellings with different numbers, or different values, are different
 differ : {t u : Told} {A : Type 0} → (t .number ≡ u .number → ⊥) → t ≡ u → A
@@ -53,3 +58,19 @@ counts-coincide t x y e f = one-count x y (e ∙ sym f)
 
 pub verdicts-coincide : (t : Told) (x y : Verdict) → toldVerdict x ≡ t → toldVerdict y ≡ t → x ≡ y
 verdicts-coincide t x y e f = one-verdict x y (e ∙ sym f)
+
+-- ---- two values that are told of one answer
+-- `Amount::value`
+pub amount-value-single : (a : Amount) (x y : Whole) → x .v ≡ told a .value
+    → y .v ≡ told a .value → x ≡ y
+amount-value-single a = whole-single (told a .value)
+
+-- `Count::value`
+pub count-value-single : (a : Count) (x y : ℕ) → pos x ≡ toldCount a .value
+    → pos y ≡ toldCount a .value → x ≡ y
+count-value-single a x y e f = ap natAbs (e ∙ sym f)
+
+-- `Verdict::value`
+pub verdict-value-single : (a : Verdict) (x y : Bool) → passes x ≡ toldVerdict a .value
+    → passes y ≡ toldVerdict a .value → x ≡ y
+verdict-value-single a x y e f = one-flag x y (e ∙ sym f)

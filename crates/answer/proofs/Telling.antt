@@ -47,15 +47,16 @@ refuses-verdict good z e = rw e
 pub value-given : (t : Told) (good : Bool) (z : ℤ) → t ≡ inRange good z → good ≡ true → t .value ≡ z
 value-given t good z e h = ap (λ (u : Told). u .value) e ∙ ap (λ (b : Bool). (inRange b z) .value) h
 
+-- tests that are told alike are alike
+pub one-flag : (x y : Bool) → passes x ≡ passes y → x ≡ y
+one-flag true true i = refl
+one-flag false false i = refl
+one-flag true false i = absurd (omega (arith, ap natAbs i))
+one-flag false true i = absurd (omega (arith, ap natAbs i))
+
 -- of a test, whether it passes
 pub verdict-given : (t : Told) (good r ok : Bool) → t ≡ inRange good (passes ok) → good ≡ true → passes r ≡ t .value → r ≡ ok
-verdict-given t good r ok e h f = same r ok (f ∙ value-given t good (passes ok) e h)
-  where
-    same : (x y : Bool) → passes x ≡ passes y → x ≡ y
-    same true true i = refl
-    same false false i = refl
-    same true false i = absurd (omega (arith, ap natAbs i))
-    same false true i = absurd (omega (arith, ap natAbs i))
+verdict-given t good r ok e h f = one-flag r ok (f ∙ value-given t good (passes ok) e h)
 
 -- ---- the range, from the code's tests
 pub both : (a b : Bool) → a ≡ true → b ≡ true → (a && b) ≡ true

@@ -54,6 +54,7 @@ traverse-single e tape words l m x y c f g h = (one-answer e tape (length words)
 pub sheet-single : (e : ℕ → ℤ) (tape out l m : List ℕ) (x y : Page) → Showed e tape out l x → Showed e tape out m y → (x ≡ y) × (l ≡ m)
 sheet-single e tape out l m x y s t = (s .answer ∙ sym (t .answer), s .left ∙ sym (t .left))
 
+-- `print`
 pub print-single : (tape out l m : List ℕ) (x y : ℕ)
     → x ≡ length (printedIn tape (length out)) → l ≡ over (printedIn tape (length out)) out
     → y ≡ length (printedIn tape (length out)) → m ≡ over (printedIn tape (length out)) out

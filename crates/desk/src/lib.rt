@@ -256,7 +256,7 @@ pub fn sheet(tape: &[u8], out: &mut [u8]) -> Page
 // What the program prints: the sheet, or the line of a refusal; nothing in bytes that have no room
 // for a sheet.
 pub fn print(tape: &[u8], out: &mut [u8]) -> usize
-    ensures length { λ r. ⌜ r
+    ensures long { λ r. ⌜ r
         ≡ length (printedIn (now (tape .entry)) (length (now (out .entry)))) ⌝ }
     ensures bytes { λ r. ⌜ now (out .exit)
         ≡ over (printedIn (now (tape .entry)) (length (now (out .entry)))) (now (out .entry)) ⌝ }

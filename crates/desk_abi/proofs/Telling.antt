@@ -1,6 +1,6 @@
 -- What is told of each case of an answer; and what is told of an answer is told of whatever its promise says that it tells.
 use Prim.Native.Nat.{ℕ}
-use mathlib.Core.Path.{_≡_, refl}
+use mathlib.Core.Path.{_≡_, refl, _∙_, ap}
 use mathlib.Core.Bool.{Bool, true, false}
 use mathlib.Core.List.{List}
 use lib.IntN.{ℤ, pos}
@@ -16,7 +16,10 @@ use Rattle.records.specs.declared.Record.{Record}
 use Rattle.records.specs.declared.Record.the-variants.{Project}
 use Rattle.writer.specs.declared.Written.{Written}
 use Rattle.records.specs.Record.{goodRecord, bytesOfRecord}
-use Rattle.tape.specs.Tape.{Told as Tape·Told}
+use Rattle.tape.specs.declared.Taken.{Taken}
+use Rattle.tape.specs.Tape.{readingOf, told as Tape·told}
+use Rattle.tape.specs.Fields.{takenOf, toldTaken}
+use Rattle.tape.proofs.Standing.{taken-tells}
 use Rattle.writer.specs.Write.{Wrote, told as Write·told}
 use Rattle.desk.specs.Answer.{Told as Desk·Told}
 use Rattle.desk.specs.declared.Page.{Page}
@@ -63,8 +66,15 @@ module _ (s t : Told) (n : ℕ) where
   pub verdict-as : (v : Bool) → TellsVerdict s v n → s ≡ t → TellsVerdict t v n
   verdict-as v h e = rw (← e) h
 
-pub reading-as : (s t : Tape·Told) (p n : ℕ) → TellsReading s p n → s ≡ t → TellsReading t p n
-reading-as s t p n h e = rw (← e) h
+-- a reading by what was taken of the tape
+pub reading-as : (tape : List ℕ) (a : Taken) (p n : ℕ) → a ≡ takenOf tape
+    → TellsReading (toldTaken a) p n → TellsReading (Tape·told (readingOf tape)) p n
+reading-as tape a p n e h =
+    let t = taken-tells tape in
+    record {
+      number = h .number ∙ ap (λ (x : Taken). toldTaken x .number) e ∙ t .0;
+      place = h .place ∙ ap (λ (x : Taken). toldTaken x .place) e ∙ t .1;
+    }
 
 pub traverse-as : (s t : Desk·Told) (p : ℕ) (l : List ℤ) (n : ℕ) → TellsTraverse s p l n → s ≡ t → TellsTraverse t p l n
 traverse-as s t p l n h e = rw (← e) h

@@ -39,8 +39,8 @@ pub record Writes (given : Record) (out : List ℕ) (at : ℕ) (out′ : List �
   pub tells : TellsWritten (told (answerOf out at (goodRecord given) (bytesOfRecord given))) p q n
   pub left : out′ ≡ leftOf out at (goodRecord given) (bytesOfRecord given)
 
--- ---- the reading
-pub record TellsReading (t : Tape·Told) (p n : ℕ) : Type 0 where
+-- ---- the reading: of what was read nothing is stored
+pub record TellsReading {A : Type 0} (t : Tape·Told A) (p n : ℕ) : Type 0 where
   pub number : n ≡ t .number
   pub place : p ≡ t .place
 

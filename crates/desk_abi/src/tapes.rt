@@ -60,16 +60,11 @@ pub extern "C" fn vas_traverse_in(
 
 // The sheet, its text in the caller's bytes.
 #[no_mangle]
-pub extern "C" fn vas_sheet(
-    tape: &[u8],
-    out: &mut [u8],
-    place: &mut usize,
-    length: &mut usize,
-) -> u32
+pub extern "C" fn vas_sheet(tape: &[u8], out: &mut [u8], place: &mut usize, used: &mut usize) -> u32
     ensures { λ r. ⌜ Shows entry (now (tape .entry)) (now (out .entry)) (now (out .exit))
-        (now (place .exit)) (now (length .exit)) r ⌝ }
+        (now (place .exit)) (now (used .exit)) r ⌝ }
 {
-    tell::page(desk::sheet(tape, out), place, length)
+    tell::page(desk::sheet(tape, out), place, used)
 }
 
 // The sheet by the sines of a lent table, whatever it holds.
@@ -79,11 +74,11 @@ pub extern "C" fn vas_sheet_in(
     tape: &[u8],
     out: &mut [u8],
     place: &mut usize,
-    length: &mut usize,
+    used: &mut usize,
 ) -> u32
     ensures { λ r. ⌜ Shows (entryIn (now (table .entry))) (now (tape .entry))
         (now (out .entry)) (now (out .exit))
-        (now (place .exit)) (now (length .exit)) r ⌝ }
+        (now (place .exit)) (now (used .exit)) r ⌝ }
 {
-    tell::page(desk::sheet_in(table, tape, out), place, length)
+    tell::page(desk::sheet_in(table, tape, out), place, used)
 }

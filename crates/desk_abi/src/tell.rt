@@ -178,18 +178,18 @@ pub fn answer(a: Answer, place: &mut usize, figures: &mut [i64; FIGURES]) -> u32
     }
 }
 
-pub fn page(a: Page, place: &mut usize, length: &mut usize) -> u32
-    ensures { λ r. ⌜ TellsPage (Page·told a) (now (place .exit)) (now (length .exit)) r ⌝ }
+pub fn page(a: Page, place: &mut usize, used: &mut usize) -> u32
+    ensures { λ r. ⌜ TellsPage (Page·told a) (now (place .exit)) (now (used .exit)) r ⌝ }
 {
     match a {
         Page::Text(n) => {
             *place = 0;
-            *length = n;
+            *used = n;
             0
         }
         Page::Refused { number, place: p } => {
             *place = p;
-            *length = 0;
+            *used = 0;
             number
         }
     }

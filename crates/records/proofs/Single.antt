@@ -9,6 +9,7 @@ use lib.IntN.{ℤ}
 use Rattle.records.specs.declared.Record.{Record}
 use Rattle.records.specs.Record.{bodyOf, goodOf, recOf, goodRecord}
 
+-- `body_len`
 pub body-len-single : (kind x y : ℕ) → x ≡ bodyOf kind → y ≡ bodyOf kind → x ≡ y
 body-len-single kind x y e f = e ∙ sym f
 
@@ -18,9 +19,11 @@ pub fields-good-single : (kind : ℕ) (vs : List ℤ) (x y : Bool) → x ≡ goo
     → y ≡ goodOf kind vs → x ≡ y
 fields-good-single kind vs x y e f = e ∙ sym f
 
+-- `kind`
 pub kind-single : (given : Record) (x y : ℕ) → x ≡ recOf given .kind → y ≡ recOf given .kind → x ≡ y
 kind-single given x y e f = e ∙ sym f
 
+-- `good`
 pub good-single : (given : Record) (x y : Bool) → x ≡ goodRecord given → y ≡ goodRecord given
     → x ≡ y
 good-single given x y e f = e ∙ sym f

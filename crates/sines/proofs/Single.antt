@@ -1,4 +1,4 @@
--- Any two outcomes that a promise of this crate allows coincide, for every input; of `table` see minutes.
+-- Any two outcomes that a promise of this crate allows coincide, for every input.
 use mathlib.Core.Path.{_≡_, sym, _∙_}
 use Prim.Native.Nat.{ℕ}
 use lib.IntN.{ℤ}

@@ -8,6 +8,8 @@ use Rattle.answer.specs.Told.{Told, told, toldCount, toldVerdict}
 use Rattle.answer.specs.declared.Amount.{Amount}
 use Rattle.answer.specs.declared.Count.{Count}
 use Rattle.answer.specs.declared.Verdict.{Verdict}
+use Rattle.whole.specs.declared.Whole.{Whole}
+use Rattle.whole.proofs.Single.{whole-single}
 use Rattle.answer.proofs.Single.{amounts-coincide, counts-coincide, verdicts-coincide}
 use Rattle.steps.specs.Distance.{seaLevelStep, combineStep, gridStep}
 use Rattle.steps.specs.Azimuth.{fromMarkStep, onwardStep, misclosureStep, misclosureTest, balancedStep}
@@ -18,6 +20,7 @@ use Rattle.steps.specs.declared.course.Moves.the-variants.{Are, OutOfRan
 use Rattle.steps.specs.Closure.{closureTest, precisionStep}
 use Rattle.steps.specs.Area.{areaStep}
 
+-- `sea_level`, `combine`, `grid`, `from_mark`, `onward`, `balanced` and `precision`
 module _ (x y : Count) where
   pub sea-level-single : (elevation : ℤ) → toldCount x ≡ seaLevelStep elevation → toldCount y ≡ seaLevelStep elevation → x ≡ y
   sea-level-single elevation = counts-coincide (seaLevelStep elevation) x y
@@ -40,6 +43,7 @@ module _ (x y : Count) where
   pub precision-single : (north east : ℤ) (s : ℕ) → toldCount x ≡ precisionStep north east s → toldCount y ≡ precisionStep north east s → x ≡ y
   precision-single north east s = counts-coincide (precisionStep north east s) x y
 
+-- `misclosure`, `share`, `angle_share` and `doubled_area`, and between them the moves
 module _ (x y : Amount) where
   pub misclosure-single : (carried given : ℕ) → told x ≡ misclosureStep carried given → told y ≡ misclosureStep carried given → x ≡ y
   misclosure-single carried given = amounts-coincide (misclosureStep carried given) x y
@@ -71,6 +75,12 @@ moves-single e distance azimuth x y p q = one-moves x y (λ axis. p axis ∙ sym
     one-moves (Are m n) (Are k l) p =
         ap (λ (v : ℤ). Are (record { v = v }) n) (ap (λ (z : Told). z .value) (p Axis·north)) ∙ ap (λ (v : ℤ). Are k (record { v = v })) (ap (λ (z : Told). z .value) (p Axis·east))
 
+-- `Moves::north` and `Moves::east`, each along its axis
+pub move-single : (axis : Axis) (m : Moves) (x y : Whole) → x .v ≡ toldOf axis m .value
+    → y .v ≡ toldOf axis m .value → x ≡ y
+move-single axis m = whole-single (toldOf axis m .value)
+
+-- `closes_angles` and `closes`
 module _ (x y : Verdict) where
   pub closes-angles-single : (w : ℤ) (n : ℕ) → toldVerdict x ≡ misclosureTest w n → toldVerdict y ≡ misclosureTest w n → x ≡ y
   closes-angles-single w n = verdicts-coincide (misclosureTest w n) x y

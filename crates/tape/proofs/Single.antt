@@ -11,12 +11,15 @@ use Rattle.tape.specs.Tape.{readingOf}
 use Rattle.tape.specs.Fields.{takenOf}
 use Rattle.tape.specs.Legs.{sightAt}
 
+-- `read`
 pub read-single : (tape : List ℕ) (x y : Reading) → x ≡ readingOf tape → y ≡ readingOf tape → x ≡ y
 read-single tape x y e f = e ∙ sym f
 
+-- `take`
 pub take-single : (tape : List ℕ) (x y : Taken) → x ≡ takenOf tape → y ≡ takenOf tape → x ≡ y
 take-single tape x y e f = e ∙ sym f
 
+-- `sight_at`
 pub sight-single : (tape : List ℕ) (at : ℕ) (x y : Sight) → x ≡ sightAt tape at
     → y ≡ sightAt tape at → x ≡ y
 sight-single tape at x y e f = e ∙ sym f

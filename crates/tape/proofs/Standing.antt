@@ -16,7 +16,7 @@ use Rattle.records.specs.Record.{Rec, rowKind, projectKind, startKind, closeKin
 use Rattle.records.specs.Record.{table, bodyOf}
 use Rattle.tape.specs.Tape.{atRows, closed, isLeg, start, recordsOf, readingOf, told}
 use Rattle.tape.specs.Fields.{signed, number, pick, only, placeOf, isRow, scaleOf, picked}
-use Rattle.tape.specs.Fields.{controlOf, takenIf, takenOf, ReadsTo, DoesRead}
+use Rattle.tape.specs.Fields.{controlOf, takenIf, takenOf, toldTaken, ReadsTo, DoesRead}
 use Rattle.tape.specs.Fields.{fieldsOf as named}
 use Rattle.tape.specs.Legs.{Rest, Legs, last, leg, Order, row as a-row, opens}
 use Rattle.tape.specs.declared.State.{State}
@@ -364,13 +364,25 @@ module _ (tape : List ℕ) (r : Reading) (e : r ≡ readingOf tape) where
   taken-refused n p h = rw (← e, h)
 
   -- and what is told of it
-  pub told-reads : (a : State) → r ≡ Reads a
-      → record { number = 0; place = 0 } ≡ told (readingOf tape)
-  told-reads a h = rw (← e, h)
+  pub told-reads : (a : State) (c : Control) → r ≡ Reads a → c ≡ controlOf (named tape)
+      → toldTaken (taken.Reads c) ≡ toldTaken (takenOf tape)
+  told-reads a c h g = ap toldTaken (taken-reads a c h g)
 
   pub told-refused : (n p : ℕ) → r ≡ Refused n p
-      → record { number = n; place = p } ≡ told (readingOf tape)
-  told-refused n p h = rw (← e, h)
+      → toldTaken (taken.Refused n p) ≡ toldTaken (takenOf tape)
+  told-refused n p h = ap toldTaken (taken-refused n p h)
+
+-- what is taken tells the number and the place of the reading
+pub taken-tells : (tape : List ℕ)
+    → (toldTaken (takenOf tape) .number ≡ told (readingOf tape) .number)
+    × (toldTaken (takenOf tape) .place ≡ told (readingOf tape) .place)
+unfolding takenOf
+taken-tells tape = go (readingOf tape)
+  where
+    go : (r : Reading) → (toldTaken (takenIf r (named tape)) .number ≡ told r .number)
+        × (toldTaken (takenIf r (named tape)) .place ≡ told r .place)
+    go (Reads st) = (refl, refl)
+    go (Refused n p) = (refl, refl)
 
 -- ---- and what a caller learns from it: the tape reads, and the control is its own, or the reading
 -- is the refusal

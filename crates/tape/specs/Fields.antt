@@ -161,10 +161,27 @@ takenIf (reading.Refused n p) f = taken.Refused n p
 unfoldable pub takenOf : List ℕ → Taken
 takenOf tape = takenIf (readingOf tape) (fieldsOf tape)
 
--- what each case tells
-abbrev pub toldTaken : Taken → Told
-toldTaken (taken.Reads c) = record { number = 0; place = 0 }
-toldTaken (taken.Refused n p) = record { number = n; place = p }
+-- ---- what each case tells: the fields, of which every number is zero on a refusal
+abbrev pub noPoint : Point
+noPoint = record { north = 0; east = 0 }
+
+abbrev pub noControl : Control
+noControl =
+    record {
+      legs = 0;
+      line = 0;
+      elevation = record { v = pos 0 };
+      scale = 0;
+      from = noPoint;
+      mark = 0;
+      to = noPoint;
+      given = 0;
+      place = 0;
+    }
+
+abbrev pub toldTaken : Taken → Told Control
+toldTaken (taken.Reads c) = record { number = 0; place = 0; read = c }
+toldTaken (taken.Refused n p) = record { number = n; place = p; read = noControl }
 
 -- each element is a byte, as a lent slice of bytes tells
 pub record AllBytes (l : List ℕ) : Type 0 where

@@ -159,11 +159,15 @@ runOf st at (r ∷ rs) =
 abbrev pub fieldsRead : List Rec → Reading
 fieldsRead rs = runOf start 0 rs
 
--- ---- what is told
-pub record Told : Type 0 where
+-- ---- what is told: number, place, and what was read, of which every number is zero on a refusal
+pub record Told (A : Type 0) : Type 0 where
   pub number : ℕ
   pub place : ℕ
+  pub read : A
 
-abbrev pub told : Reading → Told
-told (Reads st) = record { number = 0; place = 0 }
-told (Refused n p) = record { number = n; place = p }
+abbrev pub noState : State
+noState = record { phase = 0; rows = 0; next = 0; legs = 0 }
+
+abbrev pub told : Reading → Told State
+told (Reads st) = record { number = 0; place = 0; read = st }
+told (Refused n p) = record { number = n; place = p; read = noState }

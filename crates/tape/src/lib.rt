@@ -91,7 +91,7 @@ pub fn read(tape: &[u8]) -> Reading
 // from `line` on.
 pub fn take(tape: &[u8]) -> Taken
     ensures is { λ r. ⌜ r ≡ takenOf (now (tape .entry)) ⌝ }
-    ensures told { λ r. ⌜ toldTaken r ≡ told (readingOf (now (tape .entry))) ⌝ }
+    ensures told { λ r. ⌜ toldTaken r ≡ toldTaken (takenOf (now (tape .entry))) ⌝ }
     ensures bytes { λ r. ⌜ AllBytes (now (tape .entry)) ⌝ }
 {
     match order::read_all(tape) {

@@ -7,4 +7,5 @@ pub mod Machine
 pub mod Poly
 pub mod Ring
 pub mod Rounding
+pub mod Single
 pub mod Sums

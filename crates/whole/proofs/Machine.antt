@@ -1,7 +1,7 @@
 -- What the needs of signed code ask, said of the integers themselves. A signed value passes through its bits, so a need speaks of `back z` where the
 -- code says z; below 2 ^ 63 in size that is z again, for every operation and test alike. Assumes nothing.
-use mathlib.Core.Path.{_≡_, refl, sym, _∙_, ap, subst}
-use mathlib.Core.Bool.{Bool, true, false, _&&_, and-true}
+use mathlib.Core.Path.{_≡_, refl, sym, _∙_, subst}
+use mathlib.Core.Bool.{true, false, _&&_, and-true}
 use Prim.Native.Nat.{ℕ, zero, suc, _+_, _-_, _*_, _^_, _≤_, _<_}
 use native.Mathlib.Nat.{mul-lt-mul-of-pos-right, mul-le-mul-left, lt-of-le-of-lt, le-of-lt}
 use native.Mathlib.Omega.{arith}
@@ -12,10 +12,8 @@ use lib.Signed.{ltZ, leZ, nonNeg, mag}
 use mir.Syntax.{w64}
 use mir.Val.{SFits, Fits, toZ, ofZ}
 use mir.Facts.{toZ-ofZ}
-use Rattle.whole.specs.Nearest.{nearest, halfUp}
 use Rattle.whole.proofs.Diff.{ints, same}
 use Rattle.whole.proofs.Laws.{abs-neg, abs-mul}
-use Rattle.whole.proofs.Rounding.{nearest-below, nearest-above}
 
 -- ---- to bits and back
 abbrev pub back : ℤ → ℤ
@@ -149,11 +147,3 @@ above-cast z m e =
     let s = sign-above z (subst (λ (y : ℤ). ltZ y (pos 0) ≡ false) (back-all z m) e) in
     let small = subst (λ (y : ℤ). mag y < 2 ^ 63) (s .1) m in
     rw (back-all z m, s .1) (tt, record { fits = omega arith })
-
--- q is the size of z over d, rounded, and b says whether z is below zero
-module _ (z q : ℤ) (b : Bool) (d m n : ℕ) (e : q ≡ pos m) (f : m ≡ halfUp n d) (g : n ≡ natAbs z) (h : b ≡ ltZ z (pos 0)) where
-  pub rounded-above : b ≡ false → q ≡ nearest z d
-  rounded-above i = e ∙ ap pos f ∙ rw (g, nearest-above z d (sym h ∙ i))
-
-  pub rounded-below : (r : ℤ) → r ≡ negℤ q → b ≡ true → r ≡ nearest z d
-  rounded-below r j i = j ∙ ap negℤ (e ∙ ap pos f) ∙ rw (g, nearest-below z d (sym h ∙ i))

@@ -1,15 +1,11 @@
 -- What `nearest` is: the one number that the property `Nearest` allows, odd, rising, exact at whole multiples, and no larger than what is rounded.
 -- Assumes nothing.
-use mathlib.Core.Path.{_≡_, refl, sym, _∙_, ap, subst}
-use mathlib.Core.Bool.{true, false}
+use mathlib.Core.Path.{_≡_, refl, sym, _∙_, ap}
 use mathlib.Core.List.{[], _∷_}
 use mathlib.Core.Logic.{_⊎_, inl, inr, ⊎-elim}
 use Prim.Native.Nat.{ℕ, suc, _+_, _*_, _≤_, _<_}
 use native.Mathlib.Nat.{div-mul-le-self, lt-div-mul-add, div-eq-of-lt-le, eq-or-lt-of-le, div-lt-iff-lt-mul, le-div-iff-mul-le, mul-le-mul-left}
 use native.Mathlib.Omega.{arith}
-use lib.Dec.{T}
-use lib.Signed.{ltZ}
-use borrow.Author.Tests.{ltb-true}
 use lib.IntN.{ℤ, pos, negsuc, negℤ, natAbs, negℤ-negℤ, _-ℤ_, _*ℤ_, zero-*ℤ}
 use Rattle.whole.specs.Order.{_≤ᶻ_}
 use Rattle.whole.specs.Nearest.{Nearest, nearest, halfUp}
@@ -106,14 +102,3 @@ nearest-size (negsuc n) d = abs-neg (pos (halfUp (suc n) d))
 -- an amount of at most k units rounds to at most k
 pub nearest-most : (z : ℤ) (d k : ℕ) → 0 < d → natAbs z ≤ k * d → natAbs (nearest z d) ≤ k
 nearest-most z d k h low = rw (nearest-size z d) (half-up-most (natAbs z) d k h low)
-
--- ---- by the sign, which is how the code goes
-pub nearest-below : (z : ℤ) (d : ℕ) → ltZ z (pos 0) ≡ true → nearest z d ≡ negℤ (pos (halfUp (natAbs z) d))
-unfolding nearest
-nearest-below (pos n) d e = absurd (omega (arith, ltb-true n 0 e))
-nearest-below (negsuc n) d e = refl
-
-pub nearest-above : (z : ℤ) (d : ℕ) → ltZ z (pos 0) ≡ false → nearest z d ≡ pos (halfUp (natAbs z) d)
-unfolding nearest
-nearest-above (pos n) d e = refl
-nearest-above (negsuc n) d e = absurd (subst T e tt)

@@ -5,7 +5,7 @@ ghost use mathlib.Core.Path.{_≡_};
 ghost use Prim.Native.Nat.{_+_, _*_, _<_, _≤_, _^_};
 ghost use lib.IntN.{pos, negℤ, natAbs, _+ℤ_, _-ℤ_, _*ℤ_};
 ghost use lib.Signed.{ltZ};
-ghost use Rattle.whole.specs.Nearest.{halfUp, nearest};
+ghost use Rattle.whole.specs.Nearest.{halfUp};
 
 pub struct Whole {
     pub v: i64,
@@ -79,21 +79,10 @@ impl Whole {
     {
         self.v < b.v
     }
-
-    // Over d, to the nearest whole number: the size is rounded, and the sign put back.
-    pub fn nearest(self, d: u64) -> Whole
-        requires { ⌜ natAbs (self .v) < 2 ^ 62 ⌝ }
-        requires { ⌜ 0 < d ⌝ }
-        requires { ⌜ d < 2 ^ 62 ⌝ }
-        ensures is { λ r. ⌜ r .v ≡ nearest (self .v) d ⌝ }
-        ensures size { λ r. ⌜ natAbs (r .v) ≤ natAbs (self .v) ⌝ }
-    {
-        let q = Whole::of_size(half_up(self.size(), d));
-        if self.below_zero() { q.opposite() } else { q }
-    }
 }
 
-// n / d to the nearest whole number, for amounts that are not negative.
+// n / d to the nearest whole number, for amounts that are not negative. A negative amount is
+// rounded by its size, and the sign put on after (`nearest-neg`).
 pub fn half_up(n: u64, d: u64) -> u64
     requires { ⌜ 2 * n + d < 2 ^ 64 ⌝ }
     requires { ⌜ 0 < d ⌝ }

@@ -8,6 +8,7 @@ use Rattle.records.specs.Record.{goodRecord, bytesOfRecord}
 use Rattle.writer.specs.declared.Written.{Written}
 use Rattle.writer.specs.Write.{Wrote}
 
+-- `write`
 pub write-single : (out a b : List ℕ) (place : ℕ) (given : Record) (x y : Written)
     → Wrote out a place (goodRecord given) (bytesOfRecord given) x
     → Wrote out b place (goodRecord given) (bytesOfRecord given) y → (x ≡ y) × (a ≡ b)
