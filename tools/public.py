@@ -81,7 +81,7 @@ def main() -> None:
             if function.asks and crate not in TOOLS:
                 asking.append(f"{name} has a requirement")
             if function.name not in laws and name not in exceptions:
-                lacking.append(f"{name} is named neither in proofs/Single.antt nor in EXCEPTIONS.md")
+                lacking.append(f"{name}: no law in proofs/Single.antt, and no exception")
     if asking or lacking:
         sys.exit("\n".join(asking + lacking))
 

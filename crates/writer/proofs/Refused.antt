@@ -22,11 +22,10 @@ pub refused-nothing : (out left : List ℕ) (place : ℕ) (good : Bool) (bytes :
     → (left ≡ out) × (told r .next ≡ 0)
 unfolding answerOf leftOf
 refused-nothing out left place good bytes r w some =
-    let Kept : List ℕ → Type 0 = λ l. l ≡ out in
-    (
+    let Kept : List ℕ → Type 0 = λ l. l ≡ out in (
       rw (w .left)
-      (by-test Kept (leb (place + length bytes) (length out))
-      (λ room. by-test Kept good (λ h. absurd (some (rw (w .answer, room, h)))) (λ h. refl))
-      (λ room. refl)),
+          (by-test Kept (leb (place + length bytes) (length out))
+          (λ room. by-test Kept good (λ h. absurd (some (rw (w .answer, room, h)))) (λ h. refl))
+          (λ room. refl)),
       none-next r some,
     )
