@@ -73,7 +73,7 @@ module _ (tape : List ℕ) (number : answered entry tape .number ≡ 0) where
   unfolding lineOf stationLine
   text-corner k h =
       let few : k ≤ answered entry tape .legs =
-          omega (arith, accepted-legs entry tape (length ownWords) taken) in
+      omega (arith, accepted-legs entry tape (length ownWords) taken) in
       let sound = accepted-sound entry tape (length ownWords) taken in
       let i = line-in-text (answered entry tape) (stations entry tape) k few in
       let c = before-ends (answered entry tape) (stations entry tape) k in
