@@ -33,13 +33,13 @@ module _ (e : ℕ → ℤ) (words : List ℤ) where
   first-kept (stopped n p) some = refl
   first-kept (good b) some = second-kept b some
 
-  -- "A refusal .. writes nothing into lent memory"
-  pub refused-words : (tape : List ℕ) (left : List ℤ) (x : Answer)
-      → told x ≡ traversedBy e tape (length words) → left ≡ traversedWordsBy e tape words
-      → (told x .number ≡ 0 → ⊥) → left ≡ words
-  unfolding traversedBy traversedWordsBy
-  refused-words tape left x h g some =
-      rw g (first-kept (firstFor tape (length words)) (rw h at some))
+-- "A refusal .. writes nothing into lent memory"
+pub refused-words : (e : ℕ → ℤ) (tape : List ℕ) (words left : List ℤ) (x : Answer)
+    → told x ≡ traversedBy e tape (length words) → left ≡ traversedWordsBy e tape words
+    → (told x .number ≡ 0 → ⊥) → left ≡ words
+unfolding traversedBy traversedWordsBy
+refused-words e tape words left x h g some =
+    rw g (first-kept e words (firstFor tape (length words)) (rw h at some))
 
 -- "A refusal returns its number and its place, zeros otherwise", whatever was asked
 pub refused-zeros : (x : Answer) → (told x .number ≡ 0 → ⊥)
@@ -47,7 +47,7 @@ pub refused-zeros : (x : Answer) → (told x .number ≡ 0 → ⊥)
 refused-zeros (answer.Refused n p) some = refl
 refused-zeros (answer.Adjusted f) some = absurd (some refl)
 
--- ---- the sheet: "its refusals are the tape's, with nothing written"
+-- ---- the sheet: "lent memory is untouched", and the length told is zero
 pub refused-sheet : (e : ℕ → ℤ) (tape out left : List ℕ) (r : Page) → Showed e tape out left r
     → (toldPage r .number ≡ 0 → ⊥) → left ≡ out
 unfolding paged pagedBytes shown shownBytes

@@ -2,7 +2,7 @@
 -- no next place is told. It is true because the bytes are stored only where both tests have passed,
 -- and there the number told is 0.
 use Prim.Native.Nat.{ℕ, _+_}
-use mathlib.Core.Path.{_≡_, refl}
+use mathlib.Core.Path.{_≡_, refl, _∙_}
 use mathlib.Core.Bool.{Bool}
 use mathlib.Core.List.{List}
 use lib.Dec.{leb}
@@ -22,10 +22,8 @@ pub refused-nothing : (out left : List ℕ) (place : ℕ) (good : Bool) (bytes :
     → (left ≡ out) × (told r .next ≡ 0)
 unfolding answerOf leftOf
 refused-nothing out left place good bytes r w some =
-    let Kept : List ℕ → Type 0 = λ l. l ≡ out in (
-      rw (w .left)
-          (by-test Kept (leb (place + length bytes) (length out))
-          (λ room. by-test Kept good (λ h. absurd (some (rw (w .answer, room, h)))) (λ h. refl))
-          (λ room. refl)),
-      none-next r some,
-    )
+    let Kept : List ℕ → Type 0 = λ l. l ≡ out in
+    let kept = by-test Kept (leb (place + length bytes) (length out))
+    (λ room. by-test Kept good (λ h. absurd (some (rw (w .answer, room, h)))) (λ h. refl))
+    (λ room. refl) in
+    (w .left ∙ kept, none-next r some)
