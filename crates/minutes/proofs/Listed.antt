@@ -1,4 +1,5 @@
--- The table of src/constant.rt as a list, made by tools/sine_table.py. That the two are the same is checked where the code returns its constant.
+-- The table of src/constant.rt as a list, made by tools/sine_table.py. That the two are the same is
+-- checked where the code returns its constant.
 use mathlib.Core.List.{List, [], _∷_}
 use Prim.Native.Nat.{ℕ}
 
