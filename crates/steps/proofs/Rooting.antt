@@ -11,7 +11,9 @@ use lib.IntN.{ℤ, natAbs}
 use mir.Syntax.{w64}
 use mir.Val.{Fits}
 use Rattle.steps.proofs.Laws.{product-most, square-most, below-root}
-use Rattle.steps.specs.Closure.{squares, closes, Precision, root, precision}
+use Rattle.answer.specs.Told.{toldCount}
+use Rattle.answer.specs.declared.Count.the-variants.{Is, OutOfRange}
+use Rattle.steps.specs.Closure.{squares, closes, Precision, PrecisionTold, root, precision}
 use Rattle.steps.specs.Root.{WholeRoot, worked}
 use Rattle.steps.proofs.root.ByDigits.{worked-is}
 
@@ -72,6 +74,11 @@ pub few-pairs : (both s : ℕ) → (both ≡ 0 → ⊥) → s ≤ 1300000000 →
 few-pairs both s z h =
     div-lt-iff-lt-mul {k = 100 * both} (omega arith) .1 (omega (arith, square-most s h))
 
+-- a refusal tells no number
+pub none-told : (north east : ℤ) (s : ℕ) → PrecisionTold north east s (toldCount OutOfRange)
+unfolding toldCount
+none-told north east s = record { largest = λ z. absurd (omega (arith, z)) }
+
 module _ (north east : ℤ) (n e both s : ℕ) (f : n ≡ natAbs north) (g : e ≡ natAbs east) (b : both ≡ n * n + e * e) where
   both-is : both ≡ squares north east
   both-is = b ∙ rw (f, g)
@@ -89,6 +96,20 @@ module _ (north east : ℤ) (n e both s : ℕ) (f : n ≡ natAbs north) (g : e �
       rw (ne-eqb (squares north east) 0 (λ w. z (both-is ∙ w)))
       (root-unique (s * s / (100 * both)) r (root 32 (s * s / (100 * squares north east))) h
       (rw both-is (root-is 32 (s * s / (100 * squares north east)) (small (squares north east) s (omega arith)))))
+
+  -- the rule, of what is told: none of no closures, and else the root of the quotient
+  pub zero-told : both ≡ 0 → PrecisionTold north east s (toldCount (Is 0))
+  unfolding toldCount
+  zero-told z =
+      let w : squares north east ≡ 0 = sym both-is ∙ z in
+      record { largest = λ u. record { none = λ v. refl; fits = λ n. absurd (n w); largest = λ n. absurd (n w) } }
+
+  pub largest-told : (r : ℕ) → WholeRoot (s * s / (100 * both)) r → (both ≡ 0 → ⊥)
+      → PrecisionTold north east s (toldCount (Is r))
+  unfolding toldCount
+  largest-told r h z =
+      let l = largest-root (squares north east) s r (omega (arith, both-is, z)) (rw both-is at h) in
+      record { largest = λ u. record { none = λ w. absurd (z (both-is ∙ w)); fits = λ n. l .0; largest = λ n. l .1 } }
 
   -- the test, divided by 50,000 squared
   pub closes-yes : both ≤ s * s / 2500000000 → closes north east s ≡ true

@@ -64,3 +64,7 @@ closureTest north east s = ofClosures mostTested north east s (passes (closes no
 
 abbrev pub precisionStep : ℤ → ℤ → ℕ → Told
 precisionStep north east s = ofClosures mostClosure north east s (pos (precision north east s))
+
+-- the rule itself, of what is told: where that is no refusal, it is the largest P
+pub record PrecisionTold (north east : ℤ) (s : ℕ) (t : Told) : Type 0 where
+  pub largest : t .number ≡ 0 → Precision north east s (natAbs (t .value))

@@ -6,7 +6,7 @@ use whole::Whole;
 ghost use mathlib.Core.Path.{_≡_};
 ghost use Prim.Native.Nat.{_+_, _*_, _<_, _≤_};
 ghost use Rattle.answer.specs.Told.{toldCount, toldVerdict};
-ghost use Rattle.steps.specs.Closure.{mostTested, closureTest, precisionStep};
+ghost use Rattle.steps.specs.Closure.{mostTested, closureTest, precisionStep, PrecisionTold};
 
 // "S of 1..1,300,000,000": the most that the sum of grid distances comes to.
 pub const MOST_SUM: u64 = 1_300_000_000;
@@ -60,9 +60,11 @@ pub fn closes(north: Whole, east: Whole, s: u64) -> Verdict
     Verdict::Fails
 }
 
-// The precision number: 1 in so many parts of the distance.
+// The precision number: 1 in so many parts of the distance. The promise states the paper's rule as
+// well as the number that it names.
 pub fn precision(north: Whole, east: Whole, s: u64) -> Count
-    ensures { λ r. ⌜ toldCount r ≡ precisionStep (north .v) (east .v) s ⌝ }
+    ensures rule { λ r. ⌜ PrecisionTold (north .v) (east .v) s (toldCount r) ⌝ }
+    ensures is { λ r. ⌜ toldCount r ≡ precisionStep (north .v) (east .v) s ⌝ }
 {
     let n = north.size();
     let e = east.size();
