@@ -1,8 +1,8 @@
 #!/usr/bin/env python3
 """Checks that docs/RULED_OUT.md lists the wrong answers that are tried: every edit under
-crates/CRATE/must-fail/ and trials/CRATE/ has one row in the section of its crate, marked (must-fail)
-or (trials), and no row names an edit that is not there. Run from anywhere: tools/edits.py; it prints
-what does not agree, and ends with 1 if anything does not."""
+crates/CRATE/must-fail/ and trials/CRATE/ has one row in the section of its crate, marked
+(must-fail) or (trials), and no row names an edit that is not there. Run from anywhere:
+tools/edits.py; it prints what does not agree, and ends with 1 if anything does not."""
 
 import re
 import sys
@@ -21,9 +21,11 @@ Edit = tuple[str, str, str]
 
 def tried() -> list[Edit]:
     """The edits of the repository."""
-    gate = [(path.parts[-3], "must-fail", path.stem) for path in ROOT.glob("crates/*/must-fail/*.edit")]
-    hand = [(path.parts[-2], "trials", path.stem) for path in ROOT.glob("trials/*/*.edit")]
-    return gate + hand
+    gate = ROOT.glob("crates/*/must-fail/*.edit")
+    hand = ROOT.glob("trials/*/*.edit")
+    return [(path.parts[-3], "must-fail", path.stem) for path in gate] + [
+        (path.parts[-2], "trials", path.stem) for path in hand
+    ]
 
 
 def listed() -> tuple[list[Edit], list[str]]:
@@ -53,7 +55,8 @@ def main() -> None:
     for edit in sorted(there | here):
         crate, kind, label = edit
         if here[edit] != there[edit]:
-            wrong.append(f"{crate}: {label} ({kind}) is there {there[edit]} times, and has {here[edit]} rows")
+            edits, found = there[edit], here[edit]
+            wrong.append(f"{crate}: {label} ({kind}): edits {edits}, rows {found}")
     if wrong:
         sys.exit("\n".join(["docs/RULED_OUT.md and the edits do not agree:", *wrong]))
 
