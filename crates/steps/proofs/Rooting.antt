@@ -103,7 +103,7 @@ module _ (north east : ℤ) (n e both s : ℕ) (f : n ≡ natAbs north) (g : e �
   zero-told z =
       let w : squares north east ≡ 0 = sym both-is ∙ z in
       let none : Precision north east s 0 =
-          record { none = λ v. refl; fits = λ n. absurd (n w); largest = λ n. absurd (n w) } in
+      record { none = λ v. refl; fits = λ n. absurd (n w); largest = λ n. absurd (n w) } in
       record { largest = λ u. none }
 
   pub largest-told : (r : ℕ) → WholeRoot (s * s / (100 * both)) r → (both ≡ 0 → ⊥)
@@ -112,7 +112,7 @@ module _ (north east : ℤ) (n e both s : ℕ) (f : n ≡ natAbs north) (g : e �
   largest-told r h z =
       let l = largest-root (squares north east) s r (omega (arith, both-is, z)) (rw both-is at h) in
       let all : Precision north east s r =
-          record { none = λ w. absurd (z (both-is ∙ w)); fits = λ n. l .0; largest = λ n. l .1 } in
+      record { none = λ w. absurd (z (both-is ∙ w)); fits = λ n. l .0; largest = λ n. l .1 } in
       record { largest = λ u. all }
 
   -- the test, divided by 50,000 squared
