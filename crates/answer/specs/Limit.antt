@@ -1,5 +1,5 @@
--- Paper 01, "The tape": the limits that the tape's fields and the arithmetic steps share, each by
--- one name. src/limit.rt has the same names. The circle is in the specs of `minutes` (Quadrant).
+-- docs/RULES.md, "The tape": the limits that the tape's fields and the arithmetic steps share, each
+-- by one name. src/limit.rt has the same names. The circle is in the specs of `minutes` (Quadrant).
 use Prim.Native.Nat.{ℕ}
 
 -- "1 to 64 legs"

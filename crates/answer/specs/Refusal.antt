@@ -1,4 +1,5 @@
--- Paper 01, "Nine refusals": the number of each, under one name. src/refusal.rt has the same names.
+-- docs/RULES.md, "Nine refusals": the number of each, under one name. src/refusal.rt has the same
+-- names.
 use Prim.Native.Nat.{ℕ}
 
 -- "a lent buffer is too short"

@@ -1,5 +1,6 @@
--- Paper 01, "Nine refusals": a refusal returns its number and place, every other number zero; on acceptance number and place are zero.
--- An answer is told as these numbers, and every promise is an equation of what is told.
+-- docs/RULES.md, "Nine refusals": "A refusal returns number and place, every other number zero";
+-- "On acceptance number and place are zero". An answer is told as these numbers, and every promise
+-- is an equation of what is told.
 use mathlib.Core.Bool.{Bool, cond, _&&_}
 use Prim.Native.Nat.{ℕ}
 use lib.Dec.{leb}
@@ -23,11 +24,11 @@ given z = record { number = 0; place = 0; value = z }
 abbrev pub refused : ℕ → ℕ → Told
 refused number place = record { number = number; place = place; value = pos 0 }
 
--- "Public arithmetic steps give 4, place 0, for an input out of the range stated with them"
+-- "A public arithmetic step gives 4, place 0, for an input out of the range stated with it"
 abbrev pub inRange : Bool → ℤ → Told
 inRange good z = cond good (given z) (refused outOfRange 0)
 
--- a range as the paper writes it, low..high
+-- a range as the rules write it, low..high
 unfoldable pub inside : ℕ → ℕ → ℕ → Bool
 inside low high x = leb low x && leb x high
 

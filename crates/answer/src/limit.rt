@@ -1,4 +1,4 @@
-// Paper 01, "The tape": the limits that the tape's fields and the arithmetic steps share.
+// docs/RULES.md, "The tape": the limits that the tape's fields and the arithmetic steps share.
 // specs/Limit.antt has the same names. A limit of a field of four bytes is a u32, as the field is;
 // a step that works with wider numbers widens it once, in a constant of its own.
 

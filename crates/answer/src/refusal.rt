@@ -1,4 +1,4 @@
-// Paper 01, "Nine refusals": their numbers. specs/Refusal.antt has the same names.
+// docs/RULES.md, "Nine refusals": their numbers. specs/Refusal.antt has the same names.
 
 // 1: a lent buffer is too short.
 pub const NO_ROOM: u32 = 1;

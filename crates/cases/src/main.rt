@@ -1,5 +1,5 @@
 // Reads a bundle of cases on standard input and prints all that is answered to each, for
-// comparison: the expected output is made by the second program, which is written from the paper
+// comparison: the expected output is made by the second program, which is written from the rules
 // alone. A case is a letter, which says its subject, and what the subject's module reads.
 mod angles;
 mod calls;

@@ -1,6 +1,6 @@
--- Demand 3 of the printed sheet: "the sheet's northing differs from that one by at most 0.55
--- hundredths for each leg .. plus half a hundredth. So does its easting", said of what a reader of
--- the bytes finds in the line of a station.
+-- docs/RULES.md, "The three demands": the third, of the printed sheet. "The sheet's northing
+-- differs from that one by at most 0.55 hundredths for each leg .. plus half a hundredth. So does
+-- its easting", said of what a reader of the bytes finds in the line of a station.
 use Prim.Native.Nat.{ℕ, _+_}
 use mathlib.Core.Path.{_≡_}
 use mathlib.Core.Bool.{cond}

@@ -1,4 +1,5 @@
--- Demand 3: the traverse that is nowhere rounded, as exact fractions, and the bound on how far a station may stand from it.
+-- docs/RULES.md, "The three demands": of the third, the traverse that is nowhere rounded, as exact
+-- fractions, and the bound on how far a station may stand from it.
 use Prim.Native.Nat.{ℕ, _+_, _-_, _*_, _≤_, _<_, max}
 use lib.IntN.{ℤ, pos, negℤ, natAbs, _-ℤ_, _*ℤ_}
 use Rattle.minutes.specs.Exact.{unity, exactSine, exactCosine}
@@ -12,19 +13,21 @@ pub record Fraction : Type 0 where
   pub parts : ℤ
   pub of : ℕ
 
--- "sines exactly": the series of paper 01, the cosine's for latitudes
+-- "sines exactly": by the series of the rules, the cosine's for latitudes
 unfoldable pub exactAlong : Axis → ℕ → ℤ
 exactAlong north azimuth = exactCosine azimuth
 exactAlong east azimuth = exactSine azimuth
 
--- a distance in thousandths by a sine over `unity`: parts of which ten times `unity` make a hundredth
+-- a distance in thousandths by a sine over `unity`: parts of which ten times `unity` make a
+-- hundredth
 unfoldable pub fine : ℕ
 fine = 10 * unity
 
 unfoldable pub exactMove : Axis → ℕ → ℕ → ℤ
 exactMove axis distance azimuth = negℤ (exactAlong axis azimuth *ℤ pos distance)
 
--- "take the balanced azimuths and reduced distances as they are": a coordinate of the traverse in those parts
+-- "take the balanced azimuths and reduced distances as they are": a coordinate of the traverse in
+-- those parts
 abbrev pub exactLine : Axis → Balanced → Line
 exactLine axis b =
     record {
@@ -35,7 +38,8 @@ exactLine axis b =
       long = longOf b;
     }
 
--- "balance by the same compass rule and round nothing after": preliminary less closure x S_k / S, as parts of which S make one of the line's
+-- "balance by the same compass rule and round nothing after": preliminary less closure x S_k / S,
+-- as parts of which S make one of the line's
 unfoldable pub unrounded : Line → ℕ → ℤ
 unrounded l k = pos (runAll l) *ℤ preliminary l k -ℤ closure l *ℤ pos (run (l .long) k)
 

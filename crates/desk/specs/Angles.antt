@@ -1,6 +1,7 @@
--- Paper 01, "Azimuths and legs", over the fields of a tape: the azimuths carried along the legs,
--- the misclosure W, and the balanced azimuths. Legs are numbered by the station that they leave,
--- from 0; the angle at the last station is the closing one.
+-- docs/RULES.md, "Distances" and "Azimuths and legs", of the fields of a tape: the combined factor,
+-- the azimuths carried along the legs, the misclosure W, and the balanced azimuths. Legs are
+-- numbered by the station that they leave, from 0; the angle at the last station is the closing
+-- one.
 use Prim.Native.Nat.{ℕ, _+_}
 use mathlib.Core.List.{List}
 use lib.ListN.{getD, replicate}

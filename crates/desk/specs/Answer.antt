@@ -1,5 +1,5 @@
--- Paper 01, "Nine refusals" and "Closure and compass rule": what a traverse is answered with, and
--- what is left in the lent words.
+-- docs/RULES.md, "Nine refusals" and "Closure and compass rule": what a traverse is answered with,
+-- and what is left in the lent words.
 use mathlib.Core.Bool.{Bool, false, cond}
 use mathlib.Core.List.{List}
 use Prim.Native.Nat.{ℕ, _+_, _*_}
@@ -92,7 +92,7 @@ firstIf (reading.Reads st) f = checkedAngles f
 unfoldable pub firstOf : List ℕ → First
 firstOf tape = firstIf (readingOf tape) (fieldsOf tape)
 
--- "Refusal 1 is tried first", "under 130 words for coordinates"
+-- "Refusal 1 is tested first", "under 130 words for coordinates"
 unfoldable pub firstFor : List ℕ → ℕ → First
 firstFor tape room = cond (ltb room stationWords) (stopped noRoom 0) (firstOf tape)
 
@@ -146,7 +146,7 @@ wordsAfterFirst e (good b) words = secondWords e b words
 unfoldable pub traversedWordsBy : (ℕ → ℤ) → List ℕ → List ℤ → List ℤ
 traversedWordsBy e tape words = wordsAfterFirst e (firstFor tape (length words)) words
 
--- ---- the paper's traverse: by the entries of its own table
+-- ---- the traverse of the rules: by the entries of the desk's own table
 abbrev pub traversed : List ℕ → ℕ → Told
 traversed tape room = traversedBy entry tape room
 

@@ -1,5 +1,6 @@
--- What the private functions promise one another: the ranges of a balanced traverse, what the sums
--- hold at a station, and when an answer can be shown. The public promises do not mention any of it.
+-- docs/RULES.md, "Definitions that state no rule": what the private functions promise one another,
+-- which is the ranges of a balanced traverse, what the sums hold at a station, and when an answer
+-- can be shown. The public promises do not mention any of it.
 use Prim.Native.Nat.{ℕ, zero, suc, _+_, _*_, _^_, _≤_, _<_}
 use mathlib.Core.Path.{_≡_}
 use mathlib.Core.Bool.{true, cond, _&&_}

@@ -1,6 +1,6 @@
--- Paper 01, "Closure and compass rule", for one coordinate by itself, northing or easting. It knows
--- nothing of azimuths, sines or tapes. Legs are numbered by the station that they leave, from 0, so
--- station k is reached after k legs.
+-- docs/RULES.md, "Closure and compass rule", of one coordinate by itself, northing or easting. It
+-- knows nothing of azimuths, sines or tapes. Legs are numbered by the station that they leave, from
+-- 0, so station k is reached after k legs.
 use Prim.Native.Nat.{ℕ, zero, suc, _+_}
 use lib.IntN.{ℤ, _+ℤ_, _-ℤ_}
 use Rattle.steps.specs.Share.{share}

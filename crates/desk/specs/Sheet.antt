@@ -1,5 +1,5 @@
--- Paper 01, "The sheet, and one printed whole": the text of an accepted tape, line by line, and
--- what the sheet step answers and leaves in the lent bytes.
+-- docs/RULES.md, "The sheet, and one printed whole" and "Nine refusals": the text of an accepted
+-- tape, line by line, and what the sheet step answers and leaves in the lent bytes.
 use Prim.Native.Nat.{ℕ, zero, suc, _+_}
 use mathlib.Core.Bool.{Bool, cond}
 use mathlib.Core.List.{List, [], _++_}
@@ -64,7 +64,7 @@ textOf t words =
     ++ areaLine (t .area) (t .loop)
 
 -- ---- what is shown of a traverse: its refusal, or its text "from the first lent byte", which
--- "changes nothing behind it"
+-- "changes nothing after it"
 abbrev pub over : List ℕ → List ℕ → List ℕ
 over bytes out = bytes ++ drop (length bytes) out
 
@@ -79,8 +79,8 @@ shownBytes t words out = cond (eqb (t .number) 0) (over (textOf t words) out) ou
 abbrev pub sheetBytes : ℕ
 sheetBytes = 4096
 
--- ---- the sheet step: "Refusal 1 is tried first", "under 4,096 bytes for the sheet"; "its refusals
--- are the tape's". The words are the step's own
+-- ---- the sheet step: "Refusal 1 is tested first", "under 4,096 bytes for the sheet"; "its
+-- refusals are the tape's". The words are the step's own
 abbrev pub ownWords : List ℤ
 ownWords = replicate stationWords (pos 0)
 
@@ -109,7 +109,7 @@ abbrev pub told : Page → Told
 told (Refused n p) = record { number = n; place = p; length = 0 }
 told (Text n) = record { number = 0; place = 0; length = n }
 
--- ---- what the sheet step owes: r is its answer, tells what the paper says, and out′ is what it
+-- ---- what the sheet step owes: r is its answer, tells what the rules say, and out′ is what it
 -- leaves of out
 pub record Showed (e : ℕ → ℤ) (tape out out′ : List ℕ) (r : Page) : Type 0 where
   pub answer : r ≡ paged e tape (length out)

@@ -1,5 +1,5 @@
--- Paper 01, "Azimuths and legs" and "Closure and compass rule", of a traverse whose angles are
--- balanced: its two coordinates as lines.
+-- docs/RULES.md, "Azimuths and legs", "Closure and compass rule" and "Doubled area", of a traverse
+-- whose angles are balanced: its two coordinates as lines.
 use mathlib.Core.Bool.{Bool, cond, _&&_}
 use mathlib.Core.List.{List, [], _∷_, _++_}
 use Prim.Native.Nat.{ℕ, zero, suc, _+_, _*_}
@@ -57,8 +57,8 @@ unfoldable pub offsetsTo : (ℕ → ℤ) → Balanced → ℕ → List ℤ
 offsetsTo e b zero = []
 offsetsTo e b (suc k) = offsetsTo e b k ++ (offset e b north k ∷ offset e b east k ∷ [])
 
--- "for tapes whose two fixed points have equal coordinates: the sum round stations 0 to n-1";
--- "Otherwise 0 and marked as no loop"
+-- "a tape whose two fixed points have equal coordinates" has "the sum round stations 0 to n-1"; any
+-- other has "0 and marked as no loop"
 abbrev pub same : Point → Point → Bool
 same p q = eqb (p .north) (q .north) && eqb (p .east) (q .east)
 

@@ -1,6 +1,6 @@
--- Paper 01, "Azimuths and legs", along a line, whatever it was read from: the angles turned at its
--- stations, and how many of them share the misclosure W. Legs are numbered by the station that they
--- leave, from 0.
+-- docs/RULES.md, "Azimuths and legs", along a line, whatever it was read from: the angles turned at
+-- its stations, and how many of them share the misclosure W. Legs are numbered by the station that
+-- they leave, from 0.
 use Prim.Native.Nat.{ℕ, zero, suc, _+_}
 use mathlib.Core.List.{List}
 use lib.ListN.{getD}

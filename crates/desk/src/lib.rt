@@ -157,7 +157,7 @@ pub fn traverse_in(table: &[u32; ENTRIES], tape: &[u8], words: &mut [i64]) -> An
     }
 }
 
-// The paper's traverse, by the desk's own table.
+// The traverse of the rules, by the desk's own table.
 pub fn traverse(tape: &[u8], words: &mut [i64]) -> Answer
     ensures answer { λ r. ⌜ told r ≡ traversed (now (tape .entry)) (length (now (words .entry))) ⌝ }
     ensures words { λ r. ⌜ now (words .exit)
@@ -236,7 +236,7 @@ pub fn sheet_in(table: &[u32; ENTRIES], tape: &[u8], out: &mut [u8]) -> Page
     }
 }
 
-// The paper's sheet, by the desk's own table.
+// The sheet of the rules, by the desk's own table.
 pub fn sheet(tape: &[u8], out: &mut [u8]) -> Page
     ensures { λ r. ⌜ Showed entry (now (tape .entry)) (now (out .entry)) (now (out .exit)) r ⌝ }
 {

@@ -1,4 +1,5 @@
--- What the C functions tell. Everywhere n is the number that is returned: of the refusal, or 0.
+-- docs/RULES.md, "Definitions that state no rule": what the C functions tell, in the definitions of
+-- the rules. Everywhere n is the number that is returned: of the refusal, or 0.
 use Prim.Native.Nat.{ℕ}
 use mathlib.Core.Path.{_≡_}
 use mathlib.Core.Bool.{Bool}

@@ -1,4 +1,4 @@
--- Paper 01, "Sines": the table of the whole minutes.
+-- docs/RULES.md, "Sines": the table of the whole minutes.
 use mathlib.Core.Path.{_≡_}
 use mathlib.Core.List.{List}
 use Prim.Native.Nat.{ℕ, _*_, _≤_}

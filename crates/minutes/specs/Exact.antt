@@ -1,4 +1,5 @@
--- Paper 01, "Sines": the exact sine, as an exact fraction. Each is a numerator over one common denominator, `unity`, which is the sine of 90 degrees.
+-- docs/RULES.md, "Sines": the exact sine, as an exact fraction. Each is a numerator over one common
+-- denominator, `unity`, which is the sine of 90 degrees.
 use mathlib.Core.Bool.{Bool, true, false}
 use mathlib.Core.List.{List, [], _∷_}
 use Prim.Native.Nat.{ℕ, zero, suc, _-_, _*_, _/_, _^_, _≤_}
@@ -42,7 +43,8 @@ cosinePowers = 0 ∷ 2 ∷ 4 ∷ 6 ∷ 8 ∷ 10 ∷ 12 ∷ 14 ∷ 16 ∷ 18 ∷ 
 abbrev pub octant : ℕ
 octant = 1620000
 
--- "up to and including 45 degrees" by the sine's series; "above 45 degrees, up to 90," by the cosine's of the complement
+-- "up to and including 45 degrees" by the sine's series; "above 45 degrees, up to 90," by the
+-- cosine's of the complement
 unfoldable pub bySeries : Bool → ℕ → ℤ
 bySeries true a = series sinePowers a
 bySeries false a = series cosinePowers (quarterCircle - a)

@@ -1,4 +1,5 @@
--- Paper 01, "Sines": how the other angles fold into the first quadrant, for exact sines and for those of a table alike; and the cosine.
+-- docs/RULES.md, "Units and nearest" and "Sines": the circle and its parts; how the other angles
+-- fold into the first quadrant, for exact sines and for those of a table alike; and the cosine.
 -- Angles are in tenths of a second. src/quadrant.rt has the same names of the circle and its parts.
 use mathlib.Core.Bool.{Bool, cond}
 use Prim.Native.Nat.{ℕ, _+_, _-_, _%_}

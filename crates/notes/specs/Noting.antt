@@ -1,4 +1,5 @@
--- What the answers owe of the lent bytes.
+-- docs/RULES.md, "Definitions that state no rule": what the answers of field notes owe of the lent
+-- bytes.
 use mathlib.Core.List.{List}
 use mathlib.Core.Path.{_≡_}
 use Prim.Native.Nat.{ℕ, _≤_}

@@ -1,4 +1,4 @@
--- Paper 01, "The tape": numbers of two and four bytes, "unsigned, high byte first, except the
+-- docs/RULES.md, "The tape": numbers of two and four bytes, "unsigned, high byte first, except the
 -- elevation, which is two's complement".
 use mathlib.Core.Bool.{cond}
 use mathlib.Core.List.{List, [], _∷_}

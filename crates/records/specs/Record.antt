@@ -1,5 +1,5 @@
--- Paper 01, "The tape": the table of kinds as data, and from it the length, the fields, the ranges
--- and the bytes of a record.
+-- docs/RULES.md, "The tape": the table of kinds as data, and from it the length, the fields, the
+-- ranges and the bytes of a record.
 use mathlib.Core.Bool.{Bool, true, false, cond, _&&_}
 use mathlib.Core.List.{List, [], _∷_, _++_}
 use Prim.Native.Nat.{ℕ, _+_, _-_}

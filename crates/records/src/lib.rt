@@ -1,7 +1,7 @@
 // The records of a tape: the kinds, the length of each, and the ranges of their fields.
 use whole::Whole;
 
-// A record, with its fields as the paper names them.
+// A record, with its fields as docs/RULES.md, "The tape", names them.
 pub enum Record {
     Row {
         minute: u32,

@@ -1,5 +1,5 @@
--- Demand 2, the round trips: a tape written by `write`, one record after the other, and what such a
--- writing leaves in the lent bytes.
+-- docs/RULES.md, "The three demands": of the second, the round trips. A tape is written by `write`,
+-- one record after the other; here is what such a writing leaves in the lent bytes.
 use mathlib.Core.Path.{_≡_}
 use mathlib.Core.List.{List, [], _∷_, _++_, map}
 use Prim.Native.Nat.{ℕ}

@@ -1,4 +1,5 @@
--- Paper 01, "Sines": the interpolation between the entries of the table, and what the steps answer.
+-- docs/RULES.md, "Sines": the interpolation between the entries of the table, and what the steps
+-- answer.
 use mathlib.Core.Bool.{cond}
 use mathlib.Core.List.{List}
 use Prim.Native.Nat.{ℕ, _+_, _/_, _%_, min}
@@ -19,12 +20,13 @@ use Rattle.sines.specs.declared.Turned.the-variants.{Are, OutOfRange}
 unfoldable pub between : ℤ → ℤ → ℕ → ℤ
 between e f r = e +ℤ nearest ((f -ℤ e) *ℤ pos r) tenthsInMinute
 
--- the sine of an angle of the first quadrant by given entries; at a whole minute, r = 0, it is the entry, whatever stands behind it
+-- the sine of an angle of the first quadrant by given entries; at a whole minute, r = 0, it is the
+-- entry, whatever stands after it
 unfoldable pub quarterBy : (ℕ → ℤ) → ℕ → ℤ
 quarterBy e a =
     between (e (a / tenthsInMinute)) (e (a / tenthsInMinute + 1)) (a % tenthsInMinute)
 
--- the sine and the cosine by given entries: by `entry` they are the paper's
+-- the sine and the cosine by given entries: by `entry` they are those of the rules
 unfoldable pub sineBy : (ℕ → ℤ) → ℕ → ℤ
 sineBy e a = around (quarterBy e) a
 
@@ -40,7 +42,8 @@ entryIn t m = cond (leb m lastMinute) (pos (min (getD t m 0) nineDecimals)) (ent
 abbrev pub ofAngle : ℕ → ℤ → Told
 ofAngle a z = inRange (ltb a circle) z
 
--- the sine and the cosine of an angle as sizes, and whether each is negative: which it is by the half of the circle, of an entry 0 too
+-- the sine and the cosine of an angle as sizes, and whether each is negative: which it is by the
+-- half of the circle, of an entry 0 too
 unfoldable pub sidesBy : (ℕ → ℤ) → ℕ → Sides
 sidesBy e a =
     record {
@@ -63,6 +66,6 @@ abbrev pub toldCosine : Turned → Told
 toldCosine (Are s) = given (turned (s .back) (pos (s .cosine)))
 toldCosine OutOfRange = refused outOfRange 0
 
--- "Every sine must be shown within 20 units of the ninth decimal of the exact one"
+-- "Every sine is within 20 units of the ninth decimal of the exact one"
 abbrev pub units : ℕ
 units = 20

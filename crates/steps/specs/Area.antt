@@ -1,4 +1,4 @@
--- Paper 01, "Closure and compass rule": the doubled area, in units of 0.0001 square foot, clockwise positive.
+-- docs/RULES.md, "Doubled area": in units of 0.0001 square foot, clockwise positive.
 use mathlib.Core.Bool.{Bool, true, _&&_}
 use mathlib.Core.List.{List, [], _∷_}
 use Prim.Native.Nat.{ℕ, _+_, _*_, _/_, _%_}

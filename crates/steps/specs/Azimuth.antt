@@ -1,4 +1,5 @@
--- Paper 01, "Azimuths and legs": azimuths run clockwise from south, in tenths of a second, modulo the circle.
+-- docs/RULES.md, "Azimuths and legs": azimuths run clockwise from south, in tenths of a second,
+-- modulo the circle.
 use mathlib.Core.Path.{_≡_}
 use mathlib.Core.Bool.{Bool, cond, _&&_}
 use Prim.Native.Nat.{ℕ, _+_, _-_, _*_, _%_, _<_}
@@ -27,17 +28,20 @@ turn (negsuc n) = circle - 1 - n % circle
 abbrev pub fromMark : ℕ → ℕ → ℕ
 fromMark mark angle = (mark + angle) % circle
 
--- "Each next leg: the azimuth before, plus 180 degrees, plus its angle. The closing azimuth likewise with the closing angle"
+-- "Each next leg: the azimuth before, plus 180 degrees, plus its angle. The closing azimuth
+-- likewise with the closing angle"
 abbrev pub onward : ℕ → ℕ → ℕ
 onward before angle = (before + halfCircle + angle) % circle
 
--- "Misclosure W = carried less given, as the amount above minus half a circle and at most half a circle"
+-- "Misclosure W = carried less given, as the amount above minus half a circle and at most half a
+-- circle"
 pub record Misclosure (carried given : ℕ) (w : ℤ) : Type 0 where
   pub same : SameAngle w (pos carried -ℤ pos given)
   pub above : negℤ (pos halfCircle) <ᶻ w
   pub most : w ≤ᶻ pos halfCircle
 
--- the amount that this names: what is left modulo the circle, less a circle where that is more than half
+-- the amount that this names: what is left modulo the circle, less a circle where that is more than
+-- half
 abbrev pub nearHalf : ℕ → ℤ
 nearHalf d = cond (leb d halfCircle) (pos d) (negℤ (pos (circle - d)))
 
@@ -56,7 +60,8 @@ closesAngles w n = leb (natAbs w) (mostPerAngle * (n + 1))
 unfoldable pub balanced : ℕ → ℤ → ℕ
 balanced azimuth share = turn (pos azimuth -ℤ share)
 
--- ---- the steps: "an azimuth or angle of 0..12,959,999", "n of 1..64 and W of size up to 6,480,000"; a share's size is at most that of W
+-- ---- the steps: "two azimuths or angles of 0..12,959,999", "n of 1..64 and W of size up to
+-- 6,480,000", "an azimuth of 0..12,959,999 and a share of size up to 6,480,000"
 abbrev pub ofAngles : ℕ → ℕ → ℤ → Told
 ofAngles a b z = inRange (ltb a circle && ltb b circle) z
 

@@ -1,4 +1,5 @@
--- Paper 01, "Closure and compass rule": the closure test and the precision number. Closures are in hundredths, S in thousandths of a foot.
+-- docs/RULES.md, "Closure and compass rule" and "Precision number": the closure test and the
+-- precision number. Closures are in hundredths, S in thousandths of a foot.
 use mathlib.Core.Path.{_≡_}
 use mathlib.Core.Bool.{Bool, cond, _&&_}
 use Prim.Native.Nat.{ℕ, zero, suc, _+_, _*_, _/_, _≤_}
@@ -24,7 +25,8 @@ closes north east s = leb (closureParts * closureParts * squares north east) (s 
 abbrev pub hundredthSquared : ℕ
 hundredthSquared = 100
 
--- "the largest whole P with P squared x 100 x (C_N squared + C_E squared) at most S squared; 0 where both closures are zero"
+-- "the largest whole P with P squared x 100 x (C_N squared + C_E squared) at most S squared; 0
+-- where both closures are zero"
 pub record Precision (north east : ℤ) (s p : ℕ) : Type 0 where
   pub none : squares north east ≡ 0 → p ≡ 0
   pub fits : (squares north east ≡ 0 → ⊥) → p * p * (hundredthSquared * squares north east) ≤ s * s
@@ -32,7 +34,8 @@ pub record Precision (north east : ℤ) (s p : ℕ) : Type 0 where
       → k * k * (hundredthSquared * squares north east) ≤ s * s
       → k ≤ p
 
--- the number that this names. The whole root of x, of at most k binary digits: twice the root of a quarter of x, or one more
+-- the number that this names. The whole root of x, of at most k binary digits: twice the root of a
+-- quarter of x, or one more
 unfoldable pub root : ℕ → ℕ → ℕ
 root zero x = 0
 root (suc k) x = let r = 2 * root k (x / 4) in cond (leb ((r + 1) * (r + 1)) x) (r + 1) r
@@ -54,7 +57,8 @@ mostTested = 1200000000
 abbrev pub mostClosure : ℕ
 mostClosure = 26000
 
--- ---- the steps: "S of 1..1,300,000,000, with closures of size up to 1,200,000,000 for the test and 26,000 for the number"
+-- ---- the steps: "S of 1..1,300,000,000, with closures of size up to 1,200,000,000 for the test
+-- and 26,000 for the number"
 abbrev pub ofClosures : ℕ → ℤ → ℤ → ℕ → ℤ → Told
 ofClosures most north east s z =
     inRange (leb (natAbs north) most && leb (natAbs east) most && inside 1 mostSum s) z

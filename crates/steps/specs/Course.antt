@@ -1,4 +1,5 @@
--- Paper 01, "Azimuths and legs": latitude and departure, how far a leg moves north and east, in hundredths of a foot.
+-- docs/RULES.md, "Azimuths and legs": latitude and departure, how far a leg moves north and east,
+-- in hundredths of a foot.
 use mathlib.Core.Bool.{_&&_}
 use Prim.Native.Nat.{ℕ}
 use lib.Dec.{leb, ltb}
@@ -19,12 +20,14 @@ pub data Axis : Type 0 where
 abbrev pub perHundredth : ℕ
 perHundredth = 10000000000
 
--- "Latitude = minus grid distance x cosine; departure = minus grid distance x sine; each the nearest hundredth, rounded once from the exact
--- product": thousandths by nine decimals, over 10 ^ 10
+-- "Latitude = minus grid distance x cosine; departure = minus grid distance x sine; each the
+-- nearest hundredth, rounded once from the exact product": thousandths by nine decimals, over
+-- `perHundredth`
 unfoldable pub move : ℕ → ℤ → ℤ
 move distance sine = nearest (negℤ (sine *ℤ pos distance)) perHundredth
 
--- "with the table's sine": the cosine for latitudes, the sine for departures, by the entries of a table
+-- "with the table's sine": the cosine for latitudes, the sine for departures, by the entries of a
+-- table
 unfoldable pub sineAlong : (ℕ → ℤ) → Axis → ℕ → ℤ
 sineAlong e north azimuth = cosineBy e azimuth
 sineAlong e east azimuth = sineBy e azimuth
@@ -36,7 +39,8 @@ course e axis distance azimuth = move distance (sineAlong e axis azimuth)
 abbrev pub mostGrid : ℕ
 mostGrid = 20100000
 
--- ---- the steps: "a grid distance of 0..20,100,000 and an azimuth or angle of 0..12,959,999"; by the entries of the paper, or of a lent table
+-- ---- the steps: "a grid distance of 0..20,100,000 and an azimuth or angle of 0..12,959,999"; by
+-- the entries of the desk's own table, or of a lent one
 abbrev pub ofLeg : ℕ → ℕ → ℤ → Told
 ofLeg distance azimuth z = inRange (leb distance mostGrid && ltb azimuth circle) z
 

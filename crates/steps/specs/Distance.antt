@@ -1,4 +1,5 @@
--- Paper 01, "Distances": from a measured distance to a grid distance. Factors are in ten-millionths, distances in thousandths of a foot.
+-- docs/RULES.md, "Distances": from a measured distance to a grid distance. Factors are in
+-- ten-millionths, distances in thousandths of a foot.
 use mathlib.Core.Bool.{_&&_}
 use Prim.Native.Nat.{ℕ, _*_}
 use lib.IntN.{ℤ, pos, negℤ, natAbs, _+ℤ_}
@@ -20,7 +21,7 @@ meanRadius = 20906000
 unfoldable pub seaLevel : ℤ → ℕ
 seaLevel elevation = halfUp (meanRadius * unitFactor) (natAbs (pos meanRadius +ℤ elevation))
 
--- "the combined factor becomes the nearest ten-millionth of the product" (paper 02, b)
+-- "The combined factor is the nearest ten-millionth of the product"
 unfoldable pub combine : ℕ → ℕ → ℕ
 combine sea scale = halfUp (sea * scale) unitFactor
 
@@ -36,7 +37,8 @@ leastCombined = 9980000
 abbrev pub mostCombined : ℕ
 mostCombined = 10020010
 
--- ---- the steps: "the ranges of the tape's fields", "factors of 9,990,000..10,010,000", "a combined factor of 9,980,000..10,020,010"
+-- ---- the steps: "an elevation of -1,000..20,000", "two factors of 9,990,000..10,010,000", "a
+-- distance of 1,000..20,000,000 and a combined factor of 9,980,000..10,020,010"
 abbrev pub seaLevelStep : ℤ → Told
 seaLevelStep elevation =
     inRange (leZ (negℤ (pos lowest)) elevation && leZ elevation (pos highest))

@@ -1,7 +1,6 @@
--- Paper 02, request c: the precision number's root "by the digit-by-digit method that trainees are
--- taught". A number is set off in pairs of digits. From the left, each pair is brought down after
--- the remainder; it gives the next digit of the root, and what that digit leaves is the next
--- remainder.
+-- docs/RULES.md, "Precision number": its root "digit by digit, as trainees are taught". A number is
+-- set off in pairs of digits. From the left, each pair is brought down after the remainder; it
+-- gives the next digit of the root, and what that digit leaves is the next remainder.
 use mathlib.Core.Bool.{cond}
 use Prim.Native.Nat.{ℕ, zero, suc, _+_, _-_, _*_, _/_, _%_, _≤_, _<_}
 use lib.Dec.{leb}

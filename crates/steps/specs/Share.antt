@@ -1,4 +1,5 @@
--- Paper 01, "Azimuths and legs" and "Closure and compass rule": the one share rule, for seconds and for feet.
+-- docs/RULES.md, "Azimuths and legs" and "Closure and compass rule": the one share rule, for
+-- seconds and for feet.
 use mathlib.Core.Bool.{_&&_}
 use Prim.Native.Nat.{ℕ, _+_}
 use lib.Dec.{leb}
@@ -9,12 +10,13 @@ use Rattle.answer.specs.Told.{Told, inRange, inside}
 use Rattle.minutes.specs.Quadrant.{halfCircle}
 use Rattle.steps.specs.Closure.{mostClosure, mostSum}
 
--- "nearest to W x j / (n+1)", "nearest to closure x S_k / S": the share of a total at a part of a whole
+-- "nearest to W x j / (n+1)", "nearest to closure x S_k / S": the share of a total at a part of a
+-- whole
 unfoldable pub share : ℤ → ℕ → ℕ → ℤ
 share total part whole = nearest (total *ℤ pos part) whole
 
--- ---- the steps: "a closure of size up to 26,000, a whole 1..1,300,000,000 and a part 0..whole"; of W, at the j-th of n + 1 angles, those of the
--- misclosure test and a j of 0..n+1
+-- ---- the steps: "a closure of size up to 26,000, a whole of 1..1,300,000,000 and a part of
+-- 0..whole"; "n of 1..64, W of size up to 6,480,000 and a j of 0..n+1"
 abbrev pub shareStep : ℤ → ℕ → ℕ → Told
 shareStep closure part whole =
     inRange (leb (natAbs closure) mostClosure && inside 1 mostSum whole && leb part whole)

@@ -36,7 +36,8 @@ fn squares(n: u64, e: u64) -> u64
     n * n + e * e
 }
 
-// Whether the closures are within the limit. The paper's products have up to 93 bits; divided by 50,000 squared they have 63.
+// Whether the closures are within the limit. The rule's products have up to 93 bits; divided by
+// 50,000 squared they have 63.
 pub fn closes(north: Whole, east: Whole, s: u64) -> Verdict
     ensures { λ r. ⌜ toldVerdict r ≡ closureTest (north .v) (east .v) s ⌝ }
 {

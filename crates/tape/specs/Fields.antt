@@ -1,5 +1,6 @@
--- Paper 01, "The tape": the fields of a tape by their names, in parts by the record that has them.
--- Each is picked from the records of the tape; the row that counts is the one of the mean latitude.
+-- docs/RULES.md, "The tape" and "Nine refusals": the fields of a tape by their names, in parts by
+-- the record that has them, and what is returned of them. Each is picked from the records of the
+-- tape; the row that counts is the one of the mean latitude.
 use mathlib.Core.Bool.{Bool, cond, _&&_, _||_}
 use mathlib.Core.List.{List, [], _∷_, map}
 use mathlib.Core.Path.{_≡_}

@@ -1,5 +1,5 @@
--- The legs of a tape, found by walking: what the bytes at a place say of a leg, and where the next
--- one stands.
+-- docs/RULES.md, "The tape": the legs of a tape, found by walking: what the bytes at a place say of
+-- a leg, and where the next one stands.
 use mathlib.Core.Path.{_≡_}
 use mathlib.Core.Bool.{true, cond}
 use mathlib.Core.List.{List, [], _∷_}

@@ -1,5 +1,6 @@
--- What the reader's private functions promise one another, each of its part of the tape: the
--- reading of the whole is a refusal there, or the reading from the place after the part on.
+-- docs/RULES.md, "Definitions that state no rule": what the reader's private functions promise one
+-- another, each of its part of the tape. The reading of the whole is a refusal there, or the
+-- reading from the place after the part on.
 use mathlib.Core.Path.{_≡_}
 use mathlib.Core.Bool.{Bool, cond, false}
 use mathlib.Core.Logic.{_⊎_}

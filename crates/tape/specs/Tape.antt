@@ -1,5 +1,5 @@
--- Paper 01, "The tape" and "Nine refusals": the reading that stands before refusals 8 and 9. For
--- every list of bytes it is the state at the end, or the refusal with its place.
+-- docs/RULES.md, "The tape" and "Nine refusals": the reading that stands before refusals 8 and 9.
+-- For every list of bytes it is the state at the end, or the refusal with its place.
 use mathlib.Core.Bool.{Bool, true, false, cond, _&&_, _||_}
 use mathlib.Core.List.{List, [], _∷_, _++_}
 use Prim.Native.Nat.{ℕ, zero, suc, _+_, _-_}
@@ -148,8 +148,8 @@ unfoldable pub tapeOf : List Rec → List ℕ
 tapeOf [] = []
 tapeOf (r ∷ rs) = bytesOf (r .kind) (r .values) ++ tapeOf rs
 
--- the tests of the reading over records, whose bodies are whole: what refusal "tried before 8" some
--- fields meet
+-- the tests of the reading over records, whose bodies are whole: what refusal "tested before 8"
+-- some fields meet
 unfoldable pub runOf : State → ℕ → List Rec → Reading
 runOf st at [] = atEnd st at
 runOf st at (r ∷ rs) =

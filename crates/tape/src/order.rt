@@ -1,5 +1,5 @@
-// The reading of a tape in the paper's order: rows, the project, the start, legs, the close, the
-// end. Each record's own tests stand in the paper's order too.
+// The reading of a tape in the order of docs/RULES.md, "The tape": rows, the project, the start,
+// legs, the close, the end. Each record's own tests stand in the order of "Nine refusals" there.
 //
 // Rows may be many: where the last of them may stand, by the limit and by the tape's length, is
 // known before the first is read, so that each is told by the fewest tests. Legs are read record by

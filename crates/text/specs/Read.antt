@@ -1,5 +1,6 @@
--- Numbers read back from their text, by a reader that knows nothing of how the text was made: it
--- collects the digits, passes over what is none, and takes a first minus as the sign.
+-- docs/RULES.md, "The sheet, and one printed whole": numbers read back from their text, by a reader
+-- that knows nothing of how the text was made. It collects the digits, passes over what is none,
+-- and takes a first minus as the sign.
 use Prim.Native.Nat.{ℕ, _+_, _-_, _*_}
 use mathlib.Core.Bool.{Bool, cond, _&&_}
 use mathlib.Core.List.{List, [], _∷_}

@@ -1,4 +1,6 @@
--- What the writers ask and promise: there is room for a text at a place of the lent bytes, and there it is put. Each answers the place behind it.
+-- docs/RULES.md, "Definitions that state no rule": what the writers ask and promise. There is room
+-- for a text at a place of the lent bytes, and there it is put; each writer answers the place after
+-- it.
 use Prim.Native.Nat.{ℕ, _+_, _≤_}
 use mathlib.Core.Path.{_≡_}
 use mathlib.Core.List.{List}
@@ -9,7 +11,7 @@ use lib.Seq.{sets}
 abbrev pub Room : List ℕ → ℕ → List ℕ → Type 0
 Room l at text = at + length text ≤ length l
 
--- m is l with the text put at the place, and r the place behind it
+-- m is l with the text put at the place, and r the place after it
 pub record Put (l : List ℕ) (at : ℕ) (text m : List ℕ) (r : ℕ) : Type 0 where
   pub bytes : m ≡ sets l at text
   pub next : r ≡ at + length text

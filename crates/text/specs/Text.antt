@@ -1,4 +1,5 @@
--- Paper 01, "The sheet": numbers as the sheet prints them, in bytes. Nothing is padded.
+-- docs/RULES.md, "The sheet, and one printed whole": numbers as the sheet prints them, in bytes.
+-- Nothing is padded.
 use Prim.Native.Nat.{ℕ, zero, suc, _+_, _/_, _%_, _^_}
 use Prim.Native.String.{String}
 use Prim.Native.String as string

@@ -1,4 +1,5 @@
--- A list that is filled from the front: its first n items are those of a sequence, and behind them it is as it was.
+-- docs/RULES.md, "Definitions that state no rule": a list that is filled from the front. Its first
+-- n items are those of a sequence, and after them it is as it was.
 use Prim.Native.Nat.{ℕ, zero, suc}
 use mathlib.Core.List.{List}
 use lib.ListN.{set}

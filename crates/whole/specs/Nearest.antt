@@ -1,6 +1,7 @@
--- Paper 01, "Units": "nearest" means the nearest whole unit, a half going away from zero, for negative amounts as for positive.
--- `Nearest z d q` is that sentence of the fraction z / d and the whole number q; `nearest z d` is the number it names.
--- For d above zero the two agree: `nearest-is` and `nearest-unique` of proofs/Rounding.antt.
+-- docs/RULES.md, "Units and nearest": "nearest" means "the nearest whole unit, a half going away
+-- from zero, for negative amounts as for positive". `Nearest z d q` is that sentence of the
+-- fraction z / d and the whole number q; `nearest z d` is the number it names. For d above zero the
+-- two agree: `nearest-is` and `nearest-unique` of proofs/Rounding.antt.
 use mathlib.Core.Path.{_≡_}
 use Prim.Native.Nat.{ℕ, suc, _+_, _*_, _/_, _≤_}
 use lib.IntN.{ℤ, pos, negsuc, negℤ, natAbs, _-ℤ_, _*ℤ_}

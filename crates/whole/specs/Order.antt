@@ -1,5 +1,6 @@
--- The library's order of ℤ under names that bind weaker than a sum, so that `a +ℤ b ≤ᶻ c` reads as it does on paper.
--- (`_≤ℤ_` itself binds tighter than `+ℤ`; its meaning is kept.)
+-- docs/RULES.md, "Definitions that state no rule": the library's order of ℤ under names that bind
+-- weaker than a sum, so that `a +ℤ b ≤ᶻ c` reads as it does on paper. (`_≤ℤ_` itself binds tighter
+-- than `+ℤ`; its meaning is kept.)
 use lib.IntN.{ℤ}
 use lib.Signed.{_≤ℤ_, _<ℤ_}
 

@@ -1,4 +1,5 @@
--- Sums of signed numbers: along an index, which is how legs and stations are summed, and of a list, which is how lent words are.
+-- docs/RULES.md, "Definitions that state no rule": sums of signed numbers along an index, which is
+-- how legs and stations are summed, and of a list, which is how lent words are.
 use mathlib.Core.List.{List, [], _∷_}
 use Prim.Native.Nat.{ℕ, zero, suc}
 use lib.IntN.{ℤ, pos, _+ℤ_}

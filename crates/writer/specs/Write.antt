@@ -1,5 +1,5 @@
--- Paper 01, "Nine refusals" and after: the writer of one record into the rest of the lent bytes. It
--- tests the room (refusal 1), then the fields (refusal 4) at the given place.
+-- docs/RULES.md, "The writer": the writer of one record into the rest of the lent bytes. It tests
+-- the room (refusal 1), then the fields (refusal 4) at the given place.
 use mathlib.Core.Bool.{Bool, cond}
 use mathlib.Core.List.{List, _++_}
 use mathlib.Core.Path.{_≡_}
@@ -35,8 +35,8 @@ abbrev pub told : Written → Told
 told (Until n) = record { number = 0; place = 0; next = n }
 told (Refused n p) = record { number = n; place = p; next = 0 }
 
--- ---- what a writer owes: r is its answer, tells what the paper says, and out′ is what it leaves
--- of out
+-- ---- what a writer owes: r is its answer, tells what the rules say, and out′ is what it leaves of
+-- out
 pub record Wrote (out out′ : List ℕ) (place : ℕ) (good : Bool) (bytes : List ℕ) (r : Written)
     : Type 0 where
   pub answer : r ≡ answerOf out place good bytes
