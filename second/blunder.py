@@ -5,6 +5,7 @@ the change says that this one accounts for the refusal; docs/REFUSALS.md says ho
 """
 
 import sys
+from fractions import Fraction
 from math import isqrt
 from typing import Iterator, Sequence
 
@@ -50,27 +51,36 @@ def distance_lines(fields: Fields, missed: Point) -> Iterator[str]:
     for number, azimuth in enumerate(desk.balanced_azimuths(fields), start=1):
         # the leg's direction in units of the ninth decimal, northing and easting
         north, east = -desk.sure(steps.cosine(azimuth)), -desk.sure(steps.sine(azimuth))
-        along = nearest(missed.northing * north + missed.easting * east, UNIT)
-        across = nearest(missed.northing * east - missed.easting * north, UNIT)
+        along = nearest(Fraction(missed.northing * north + missed.easting * east, UNIT))
+        across = nearest(Fraction(missed.northing * east - missed.easting * north, UNIT))
         change, left = signed(-along, 2), unsigned(across, 2)
         yield f"distance of leg {number} by {change}: the position closure is {left} feet"
 
 
-def lines(fields: Fields) -> Iterator[str]:
-    """The closing of a tape that reads, its limit, and the search for one blunder."""
-    w, angles = desk.misclosure(fields), len(fields.legs) + 1
-    yield f"W={signed(w, 1)} seconds; {angles} angles may miss by {TENTHS_AN_ANGLE * angles // 10}"
-    if not desk.sure(steps.misclosure_passes(w, len(fields.legs))):
-        yield from angle_lines(fields, w)
-        return
+def position_lines(fields: Fields) -> Iterator[str]:
+    """The position closure by the balanced azimuths, its limit, and the search for a distance."""
     missed = closure(fields, desk.balanced_azimuths(fields))
     total = sum(desk.grid_distances(fields))
     north, east = (signed(amount, 2) for amount in missed)
     yield (
         f"N={north} E={east}: {size(missed)} feet;"
-        f" {unsigned(total, 3)} feet may miss by {unsigned(nearest(total, 10 * PARTS), 2)}"
+        f" {unsigned(total, 3)} feet may miss by {unsigned(total // PARTS, 3)}"
     )
     yield from distance_lines(fields, missed)
+
+
+def lines(fields: Fields) -> Iterator[str]:
+    """How a tape that reads closes, and the search for one blunder.
+
+    Distances are searched only where the angles close: by angles that do not, no leg has a
+    direction to go by.
+    """
+    w, angles = desk.misclosure(fields), len(fields.legs) + 1
+    yield f"W={signed(w, 1)} seconds; {angles} angles may miss by {TENTHS_AN_ANGLE * angles // 10}"
+    if desk.sure(steps.misclosure_passes(w, len(fields.legs))):
+        yield from position_lines(fields)
+    if w:
+        yield from angle_lines(fields, w)
 
 
 def search(tape: bytes) -> str:

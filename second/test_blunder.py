@@ -10,7 +10,7 @@ from second import blunder, tapes
 from second.desk import LEAST_WORDS, traverse
 from second.notes import tape_of
 from second.ranges import CIRCLE
-from second.tape import Fields, read_tape, write_tape
+from second.tape import Close, Fields, Leg, Project, Row, read_tape, write_tape
 
 FOLDER = Path(__file__).resolve().parent.parent
 DEGREE = CIRCLE // 360
@@ -24,14 +24,29 @@ def lot() -> Fields:
     return read_tape(tape_of(notes.encode())).fields
 
 
+def straight() -> Fields:
+    """Sixty-four legs of 1,000 feet due north, from the mark behind the start to one ahead."""
+    yard = tapes.printed_fields()
+    return yard._replace(
+        rows=(Row(2650, 10_000_000),),
+        project=Project(2650, 0),
+        legs=(Leg(180 * DEGREE, 1_000_000),) * 64,
+        close=Close(180 * DEGREE, 11_400_000, 200_000_000, 180 * DEGREE),
+    )
+
+
+def search_of(fields: Fields) -> str:
+    return blunder.search(write_tape(fields))
+
+
 def number(fields: Fields) -> int:
     return traverse(write_tape(fields), LEAST_WORDS).number
 
 
-def closures(fields: Fields) -> list[float]:
-    """What each line of the search has for the position closure."""
-    said = blunder.search(write_tape(fields))
-    return [float(found) for found in re.findall(r"closure is ([\d.]+) feet\n", said)]
+def suspects(fields: Fields, what: str) -> list[str]:
+    """The angles, or the distances, that leave a small closure, as the lines call them."""
+    said = re.findall(r"(.*): the position closure is ([\d.]+) feet\n", search_of(fields))
+    return [name.split(" by ")[0] for name, left in said if what in name and float(left) < 0.1]
 
 
 def with_angle(fields: Fields, leg: int, by: int) -> Fields:
@@ -50,26 +65,31 @@ class Search(unittest.TestCase):
             for by in (DEGREE, -DEGREE // 6):
                 wrong = with_angle(lot(), leg, by)
                 self.assertEqual(number(wrong), 8)
-                small = [place for place, left in enumerate(closures(wrong)) if left < 0.1]
-                self.assertEqual(small, [leg])
+                self.assertEqual(suspects(wrong, "angle"), [f"angle of leg {leg + 1} less W"])
 
     def test_in_a_loop_the_first_and_the_closing_angle_cannot_be_told_apart(self) -> None:
         wrong = with_angle(lot(), 0, DEGREE)
-        small = [place for place, left in enumerate(closures(wrong)) if left < 0.1]
-        self.assertEqual(small, [0, 5])
+        both = ["angle of leg 1 less W", "closing angle less W"]
+        self.assertEqual(suspects(wrong, "angle"), both)
 
     def test_a_distance_alone_leaves_a_small_closure(self) -> None:
         for leg in range(5):
             for by in (TEN_FEET, -TEN_FEET):
                 wrong = with_distance(lot(), leg, by)
                 self.assertEqual(number(wrong), 9)
-                small = [place for place, left in enumerate(closures(wrong)) if left < 0.1]
-                self.assertEqual(small, [leg])
+                self.assertEqual(suspects(wrong, "distance"), [f"distance of leg {leg + 1}"])
 
     def test_parallel_legs_cannot_be_told_apart(self) -> None:
         wrong = with_distance(tapes.printed_fields(), 0, TEN_FEET)
-        small = [place for place, left in enumerate(closures(wrong)) if left < 0.1]
-        self.assertEqual(small, [0, 2])
+        both = ["distance of leg 1", "distance of leg 3"]
+        self.assertEqual(suspects(wrong, "distance"), both)
+
+    def test_a_long_line_with_an_angle_off_by_ten_minutes_is_refused_with_9(self) -> None:
+        wrong = with_angle(straight(), 4, DEGREE // 6)
+        self.assertEqual(number(straight()), 0)
+        self.assertEqual(number(wrong), 9)
+        self.assertEqual(suspects(wrong, "angle"), ["angle of leg 5 less W"])
+        self.assertEqual(suspects(wrong, "distance"), [])
 
     def test_a_tape_that_does_not_read_has_its_refusal(self) -> None:
         self.assertEqual(blunder.search(b""), "REFUSED 2\n")
