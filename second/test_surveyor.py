@@ -4,7 +4,8 @@ import re
 import unittest
 from typing import Callable
 
-from second import blunder
+from second import blunder, steps
+from second.desk import course, sure
 from second.notes import Slip, tape_of
 from second.page import DOCS, read
 from second.sheet import printed
@@ -60,6 +61,20 @@ class Surveyor(unittest.TestCase):
         notes = (EXAMPLES / "wanda_mason.txt").read_text(encoding="utf-8")
         turned = notes.replace(" 269 13 56.3", " 89 13 56.3").replace(" 97 07 42.5", " 277 07 42.5")
         self.assertEqual(printed(tape(turned)), "REFUSED 9\n")
+
+    def test_bearings_and_azimuths_from_north(self) -> None:
+        said = re.findall(
+            r"\| (?:([NS]) )?(\d+)°(\d+)′(\d+)″(?: ([EW]))? \| `([\d ]+)` \|", SURVEYOR)
+        self.assertEqual(len(said), 6)
+        for ns, degrees, minutes, seconds_, ew, noted in said:
+            turned = 10 * (3_600 * int(degrees) + 60 * int(minutes) + int(seconds_))
+            d, m, s = map(int, noted.split())
+            north, east = course(1_000_000, 10 * (3_600 * d + 60 * m + s))
+            # by the angle as it stands: from north, and by its quadrant
+            along, across = sure(steps.cosine(turned)), sure(steps.sine(turned))
+            due = (-along if ns == "S" else along, -across if ew == "W" else across)
+            for amount, sine in zip((north, east), due):
+                self.assertLessEqual(abs(amount * 10_000 - sine), 5_000)
 
     def test_the_figures_of_the_bound(self) -> None:
         legs, feet = re.findall(r"^\| (?:m|feet) \| (.*) \|$", SURVEYOR, re.M)
