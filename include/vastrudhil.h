@@ -11,23 +11,28 @@
  * of stack; up to 8 KB by a lent table, or where no sine is needed.
  *
  * Every function but vas_table returns a number: 0 where the input is accepted, else the number of
- * the refusal. On acceptance every place that is told is 0.
+ * the refusal. On acceptance every place that is told is 0. docs/REFUSALS.md has what to do about
+ * each refusal.
  *
- *   1  lent memory too small            place 0
- *   2  the tape ends too soon           place of the record, or the tape's length
- *   3  a kind that may not come here    place of the record
- *   4  a field out of range             place of the record; 0 for an arithmetic step
- *   5  a row too many, or out of turn   place of the row
- *   6  a leg too many                   place of the leg
- *   7  no row for the mean latitude     place of the project record
- *   8  angular misclosure too large     place of the close record
- *   9  position closure too large       place of the close record
+ *   1  the lent memory is too small
+ *   2  the tape ends inside a record, or before the close
+ *   3  out of order: rows come first, then one project, one start, 1 to 64 legs and one close
+ *   4  a number is out of range
+ *   5  each row is one minute above the row before, and there are at most 600 rows
+ *   6  this is the 65th leg, and there are at most 64
+ *   7  no row has the mean latitude
+ *   8  the angular misclosure is above 10 seconds for each angle
+ *   9  the position closure is above 1 in 5,000 of the distance
  *
- * A place counts bytes of the tape from 0. An arithmetic step's refusal is always 4 at place 0. On
- * a refusal every other number that is told is 0, and lent lists (tape, words, out) are left as
- * they were. Units: angles and azimuths in tenths of a second, clockwise from south, below
- * 12960000; coordinates, closures, latitudes and departures in hundredths of a foot; distances in
- * thousandths of a foot; factors in ten-millionths; sines in units of the ninth decimal.
+ * A place counts bytes of the tape from 0. For 2 to 6 it is the first byte of the record, or the
+ * tape's length where a next record is missing; for 7 that of the project record; for 8 and 9 that
+ * of the close record. It is 0 for 1, and for an arithmetic step, whose refusal is always 4. On a
+ * refusal every other number that is told is 0, and lent lists (tape, words, out) are left as they
+ * were.
+ *
+ * Units: angles and azimuths in tenths of a second, clockwise from south, below 12960000;
+ * coordinates, closures, latitudes and departures in hundredths of a foot; distances in thousandths
+ * of a foot; factors in ten-millionths; sines in units of the ninth decimal.
  */
 #ifndef VASTRUDHIL_H
 #define VASTRUDHIL_H

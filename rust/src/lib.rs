@@ -77,18 +77,21 @@ pub struct Refusal {
 }
 
 impl Refusal {
-    /// The refusal in words.
+    /// The refusal in the words of docs/REFUSALS.md, which says what to do about it.
     pub fn reason(&self) -> &'static str {
         match self.number {
-            1 => "lent memory too small",
-            2 => "the tape ends too soon",
-            3 => "a kind that may not come here",
-            4 => "a field out of range",
-            5 => "a row too many, or out of turn",
-            6 => "a leg too many",
-            7 => "no row for the mean latitude",
-            8 => "angular misclosure too large",
-            9 => "position closure too large",
+            1 => "the lent memory is too small",
+            2 => "the tape ends inside a record, or before the close",
+            3 => {
+                "out of order: \
+                 rows come first, then one project, one start, 1 to 64 legs and one close"
+            }
+            4 => "a number is out of range",
+            5 => "each row is one minute above the row before, and there are at most 600 rows",
+            6 => "this is the 65th leg, and there are at most 64",
+            7 => "no row has the mean latitude",
+            8 => "the angular misclosure is above 10 seconds for each angle",
+            9 => "the position closure is above 1 in 5,000 of the distance",
             _ => "no refusal of the desk",
         }
     }

@@ -252,7 +252,7 @@ fn a_refusal_in_words() {
     let refusal = sheet(&[]).expect_err("an empty tape has no close");
     assert_eq!(
         refusal.to_string(),
-        "refusal 2 at 0: the tape ends too soon"
+        "refusal 2 at 0: the tape ends inside a record, or before the close"
     );
 }
 

@@ -5,9 +5,13 @@ use crate::Word;
 use crate::put;
 use answer::refusal;
 
+fn two(out: &mut [u8], start: usize, first: &[u8], last: &[u8]) -> usize {
+    let place = put::bytes(out, start, first);
+    put::bytes(out, place, last)
+}
+
 fn three(out: &mut [u8], start: usize, first: &[u8], what: &[u8], last: &[u8]) -> usize {
-    let named = put::bytes(out, start, first);
-    let place = put::bytes(out, named, what);
+    let place = two(out, start, first, what);
     put::bytes(out, place, last)
 }
 
@@ -79,10 +83,11 @@ fn ranges(out: &mut [u8], start: usize, word: Word) -> usize {
             place,
             b"a row has a latitude of 0 00 to 90 00 and a scale factor of 0.9990000 to 1.0010000",
         ),
-        Word::Project => put::bytes(
+        Word::Project => two(
             out,
             place,
-            b"a project has a mean latitude of 0 00 to 90 00 and a mean elevation of -1000 to 20000 feet",
+            b"a project has a mean latitude of 0 00 to 90 00 ",
+            b"and a mean elevation of -1000 to 20000 feet",
         ),
         Word::Start => put::bytes(
             out,
@@ -94,33 +99,30 @@ fn ranges(out: &mut [u8], start: usize, word: Word) -> usize {
             place,
             b"a leg has an angle below 360 degrees and a distance of 1.000 to 20000.000 feet",
         ),
-        _ => put::bytes(
+        _ => two(
             out,
             place,
-            b"a close has an angle and an azimuth below 360 degrees and coordinates of 0.00 to 10000000.00 feet",
+            b"a close has an angle and an azimuth below 360 degrees ",
+            b"and coordinates of 0.00 to 10000000.00 feet",
         ),
     }
+}
+
+// The words of a refusal, then its number: (refusal 3).
+fn numbered(out: &mut [u8], start: usize, number: u32) -> usize {
+    let word = refusal_words(out, start, number);
+    let digits = put::bytes(out, word, b" (refusal ");
+    let end = put::number(out, digits, number as u64);
+    put::bytes(out, end, b")")
 }
 
 // What the reading of the tape refuses, with the refusal's number.
 fn refused(out: &mut [u8], place: usize, fault: Fault) -> usize {
     match fault {
-        Fault::Order => put::bytes(
-            out,
-            place,
-            b"out of order: rows come first, then one project, one start, 1 to 64 legs and one close (refusal 3)",
-        ),
-        Fault::Rows => put::bytes(
-            out,
-            place,
-            b"each row is one minute above the row before, and there are at most 600 rows (refusal 5)",
-        ),
-        Fault::Legs => put::bytes(
-            out,
-            place,
-            b"this is the 65th leg, and there are at most 64 (refusal 6)",
-        ),
-        Fault::Latitude => put::bytes(out, place, b"no row has the mean latitude (refusal 7)"),
+        Fault::Order => numbered(out, place, refusal::OUT_OF_ORDER),
+        Fault::Rows => numbered(out, place, refusal::BAD_ROWS),
+        Fault::Legs => numbered(out, place, refusal::TOO_MANY_LEGS),
+        Fault::Latitude => numbered(out, place, refusal::NO_ROW),
         Fault::Ended => put::bytes(out, place, b"the notes end before the close (refusal 2)"),
         _ => put::bytes(out, place, b"no room for the tape"),
     }
@@ -162,26 +164,43 @@ pub fn refusal_at(out: &mut [u8], number: u64, place: u64) -> usize {
     put::bytes(out, end, b": ")
 }
 
+// Each refusal in the words of docs/REFUSALS.md (tools/refusals.py holds the two together).
 pub fn refusal_words(out: &mut [u8], place: usize, number: u32) -> usize {
     match number {
-        refusal::NO_ROOM => put::bytes(out, place, b"too little room is lent"),
+        refusal::NO_ROOM => put::bytes(out, place, b"the lent memory is too small"),
         refusal::CUT_SHORT => put::bytes(
             out,
             place,
-            b"the tape ends in this record, or before the close",
+            b"the tape ends inside a record, or before the close",
         ),
-        refusal::OUT_OF_ORDER => put::bytes(
+        refusal::OUT_OF_ORDER => two(
             out,
             place,
-            b"a kind unknown or out of order, or a byte behind the close",
+            b"out of order: ",
+            b"rows come first, then one project, one start, 1 to 64 legs and one close",
         ),
-        refusal::OUT_OF_RANGE => put::bytes(out, place, b"a field out of range"),
+        refusal::OUT_OF_RANGE => put::bytes(out, place, b"a number is out of range"),
         refusal::BAD_ROWS => put::bytes(
             out,
             place,
-            b"a row not one minute above the row before, or a 601st row",
+            b"each row is one minute above the row before, and there are at most 600 rows",
         ),
-        refusal::TOO_MANY_LEGS => put::bytes(out, place, b"a 65th leg"),
-        _ => put::bytes(out, place, b"no row for the mean latitude"),
+        refusal::TOO_MANY_LEGS => put::bytes(
+            out,
+            place,
+            b"this is the 65th leg, and there are at most 64",
+        ),
+        refusal::NO_ROW => put::bytes(out, place, b"no row has the mean latitude"),
+        refusal::BAD_ANGLES => put::bytes(
+            out,
+            place,
+            b"the angular misclosure is above 10 seconds for each angle",
+        ),
+        refusal::BAD_CLOSURE => put::bytes(
+            out,
+            place,
+            b"the position closure is above 1 in 5,000 of the distance",
+        ),
+        _ => put::bytes(out, place, b"no refusal of the desk"),
     }
 }
