@@ -3,3 +3,4 @@ pub mod Leg
 pub mod Corner
 pub mod Feeds
 pub mod PrintedCorner
+pub mod Witness
