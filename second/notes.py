@@ -107,6 +107,14 @@ REFUSALS = {
 
 # From text to tape
 
+# The byte-order mark of UTF-8, which some editors write before a text.
+BOM = b"\xef\xbb\xbf"
+
+
+def without_bom(text: bytes) -> bytes:
+    """The text after a byte-order mark; `tape_of` takes a mark for a part of the first word."""
+    return text.removeprefix(BOM)
+
 
 def slip_at(number: int, what: str) -> NoReturn:
     """The slip of a line, counted from 1; 0 is the end of the text."""
@@ -216,7 +224,7 @@ def main(wanted: Sequence[str]) -> None:
     """Notes to tape, or back."""
     given = sys.stdin.buffer.read()
     try:
-        sys.stdout.buffer.write(text_of(given) if wanted == ["back"] else tape_of(given))
+        sys.stdout.buffer.write(text_of(given) if wanted == ["back"] else tape_of(without_bom(given)))
     except Slip as slip:
         sys.exit(str(slip))
     except Refused as refusal:

@@ -4,7 +4,8 @@ import unittest
 from pathlib import Path
 
 from second.documents import load
-from second.notes import LINES, Refused, Slip, tape_of, text_of, text_of_fields
+from second.notes import BOM, LINES, Refused, Slip
+from second.notes import tape_of, text_of, text_of_fields, without_bom
 from second.notes_cases import base, cases, expected, joined, shapes, shortened
 from second.tape import write_tape
 from second.tapes import accepted, printed_fields
@@ -41,6 +42,18 @@ class Notes(unittest.TestCase):
     def test_the_layouts_all_say_a_traverse(self) -> None:
         for text in shapes():
             self.assertEqual(len(tape_of(text)), 67)
+
+    def test_a_byte_order_mark_is_passed_over(self) -> None:
+        for text in shapes():
+            self.assertEqual(without_bom(BOM + text), text)
+            self.assertEqual(tape_of(without_bom(BOM + text)), tape_of(text))
+
+    def test_only_a_whole_mark_at_the_start_and_only_one(self) -> None:
+        text = joined(base())
+        for kept in (text, BOM[:2] + text, text[:1] + BOM + text[1:], b" " + BOM + text, b""):
+            self.assertEqual(without_bom(kept), kept)
+        self.assertEqual(without_bom(BOM + BOM + text), BOM + text)
+        self.slip(BOM + text, "line 1: expected row, project, start, leg or close")
 
     def test_slips_as_the_page_says_them(self) -> None:
         lines = base()

@@ -6,7 +6,7 @@ use writer::Written;
 ghost use mathlib.Core.Path.{_≡_};
 ghost use Prim.Native.Nat.{_≤_};
 ghost use lib.ListN.{length, take};
-ghost use Rattle.notes.specs.Noting.{Owed, textLengthOf};
+ghost use Rattle.notes.specs.Noting.{Owed, textLengthOf, withoutBom};
 
 // The bytes that the text of a tape asks for: the longest text has room in them.
 pub const TEXT_BYTES: usize = 16_384;
@@ -199,6 +199,18 @@ fn read_back(text: &[u8], out: &[u8], used: usize) -> Noted
             fault: fault_of(number),
         },
     }
+}
+
+// The text after the byte-order mark that some editors write before it; all of it where there is
+// none. `tape_of` takes a mark for a part of the first word: a caller whose text comes from a file
+// hands over what is answered here.
+pub fn without_bom(text: &[u8]) -> &[u8]
+    ensures { λ r. ⌜ now r ≡ withoutBom (now (text .entry)) ⌝ }
+{
+    if scan::starts_with_bom(text) {
+        return &text[scan::BOM_BYTES..];
+    }
+    text
 }
 
 // The tape that a text says, from the first lent byte on, or the first fault.

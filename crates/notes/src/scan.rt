@@ -1,13 +1,39 @@
 // Looking along a text. Any place may be asked for: past its end a text has the byte 0, and nothing
 // more to say.
+ghost use mathlib.Core.Path.{_≡_};
 ghost use Prim.Native.Nat.{_<_, _≤_};
 ghost use lib.ListN.{length};
+ghost use Rattle.notes.specs.Noting.{startsWithBom};
 
 pub fn byte_at(text: &[u8], at: usize) -> u8 {
     if at < text.len() {
         return text[at];
     }
     0
+}
+
+// The byte-order mark of UTF-8 has three bytes, EF BB BF; some editors write it before a text.
+pub const BOM_BYTES: usize = 3;
+
+const BOM_FIRST: u8 = 0xEF;
+
+const BOM_SECOND: u8 = 0xBB;
+
+const BOM_THIRD: u8 = 0xBF;
+
+pub fn starts_with_bom(text: &[u8]) -> bool
+    ensures { λ r. ⌜ r ≡ startsWithBom (now (text .entry)) ⌝ }
+{
+    if text.len() < BOM_BYTES {
+        return false;
+    }
+    if text[0] != BOM_FIRST {
+        return false;
+    }
+    if text[1] != BOM_SECOND {
+        return false;
+    }
+    text[2] == BOM_THIRD
 }
 
 fn is_blank(byte: u8) -> bool {

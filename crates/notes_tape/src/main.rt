@@ -1,5 +1,6 @@
-// Field notes on standard input, their tape on standard output; a fault is one line on standard error, and then nothing is written as a tape.
-// The kit gives a program no exit status, so whoever calls this one goes by what it writes.
+// Field notes on standard input, their tape on standard output; a fault is one line on standard
+// error, and then nothing is written as a tape. A byte-order mark before the notes is passed over.
+// The kit gives a program no exit status: its callers go by what it writes.
 use libc::STDERR_FILENO;
 use libc::STDIN_FILENO;
 use libc::STDOUT_FILENO;
@@ -13,7 +14,7 @@ fn tell(line: usize, fault: Fault, room: &mut [u8]) {
 }
 
 fn print(text: &[u8], room: &mut [u8]) {
-    match notes::tape_of(text, room) {
+    match notes::tape_of(notes::without_bom(text), room) {
         Noted::Tape(n) => {
             io::write_all(STDOUT_FILENO, notes::front(room, n));
         }
@@ -21,7 +22,8 @@ fn print(text: &[u8], room: &mut [u8]) {
     }
 }
 
-// A text that fills the room may go on behind it. Nobody needs one: the longest traverse takes 13,800 bytes, comments apart.
+// A text that fills the room may go on after it. Nobody needs one: the longest traverse takes 13,800
+// bytes, comments apart.
 fn take(room: &mut [u8], other: &mut [u8]) {
     let n = io::read_full(STDIN_FILENO, room);
     if n == room.len() {
