@@ -61,7 +61,7 @@ pub fn closes(north: Whole, east: Whole, s: u64) -> Verdict
     Verdict::Fails
 }
 
-// The precision number: 1 in so many parts of the distance. The promise states the paper's rule as
+// The precision number: 1 in so many parts of the distance. The promise states the rule as
 // well as the number that it names.
 pub fn precision(north: Whole, east: Whole, s: u64) -> Count
     ensures rule { λ r. ⌜ PrecisionTold (north .v) (east .v) s (toldCount r) ⌝ }
