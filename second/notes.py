@@ -224,7 +224,8 @@ def main(wanted: Sequence[str]) -> None:
     """Notes to tape, or back."""
     given = sys.stdin.buffer.read()
     try:
-        sys.stdout.buffer.write(text_of(given) if wanted == ["back"] else tape_of(without_bom(given)))
+        made = text_of(given) if wanted == ["back"] else tape_of(without_bom(given))
+        sys.stdout.buffer.write(made)
     except Slip as slip:
         sys.exit(str(slip))
     except Refused as refusal:

@@ -37,8 +37,8 @@ build() {
     exec 9>"$root/target/building"
     flock 9
     if ! is_built "$1"; then
-        say "building the program $1, which proves every crate that it stands on: about three" \
-            "minutes on two cores, once"
+        say "building the program $1 and proving the crates that it stands on, once: two to three" \
+            "minutes on two cores, less where crates are proved already"
         (cd "$root" && rt check "$1" 2>&1 9>&-) | sed -un '/^rt: /p' >&2 ||
             fail "the program $1 was not built; $root/target/log/ says why"
         touch -c "$root/target/bin/$1"

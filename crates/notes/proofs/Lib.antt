@@ -1,2 +1,2 @@
-pub mod Bom
+pub mod Marks
 pub mod Single

@@ -4,7 +4,7 @@ use mathlib.Core.Path.{_≡_, sym, _∙_}
 use mathlib.Core.List.{List}
 use Prim.Native.Nat.{ℕ}
 use lib.ListN.{take}
-use Rattle.notes.specs.Noting.{withoutBom}
+use Rattle.notes.specs.Bom.{withoutBom}
 
 pub front-single : (room : List ℕ) (n : ℕ) (x y : List ℕ) → x ≡ take n room → y ≡ take n room
     → x ≡ y

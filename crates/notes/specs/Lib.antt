@@ -1,1 +1,2 @@
+pub mod Bom
 pub mod Noting

@@ -6,7 +6,8 @@ use writer::Written;
 ghost use mathlib.Core.Path.{_≡_};
 ghost use Prim.Native.Nat.{_≤_};
 ghost use lib.ListN.{length, take};
-ghost use Rattle.notes.specs.Noting.{Owed, textLengthOf, withoutBom};
+ghost use Rattle.notes.specs.Bom.{withoutBom};
+ghost use Rattle.notes.specs.Noting.{Owed, textLengthOf};
 
 // The bytes that the text of a tape asks for: the longest text has room in them.
 pub const TEXT_BYTES: usize = 16_384;

@@ -3,7 +3,7 @@
 ghost use mathlib.Core.Path.{_≡_};
 ghost use Prim.Native.Nat.{_<_, _≤_};
 ghost use lib.ListN.{length};
-ghost use Rattle.notes.specs.Noting.{startsWithBom};
+ghost use Rattle.notes.specs.Bom.{startsWithBom};
 
 pub fn byte_at(text: &[u8], at: usize) -> u8 {
     if at < text.len() {

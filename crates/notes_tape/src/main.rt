@@ -22,8 +22,8 @@ fn print(text: &[u8], room: &mut [u8]) {
     }
 }
 
-// A text that fills the room may go on after it. Nobody needs one: the longest traverse takes 13,800
-// bytes, comments apart.
+// A text that fills the room may go on after it. Nobody needs one: the longest traverse takes
+// 13,800 bytes, comments apart.
 fn take(room: &mut [u8], other: &mut [u8]) {
     let n = io::read_full(STDIN_FILENO, room);
     if n == room.len() {

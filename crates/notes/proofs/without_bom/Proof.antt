@@ -1,6 +1,6 @@
 -- `without_bom` meets its contract: what follows the mark's three bytes is the rest of the text.
 use borrow.Author.Needs.{needs}
-use Rattle.notes.proofs.Bom.{bom-room, after-bom, no-bom}
+use Rattle.notes.proofs.Marks.{bom-room, after-bom, no-bom}
 use Rattle.notes.proofs.without_bom.Statement.{statement}
 use Rattle.notes.proofs.without_bom.Tie as tie
 

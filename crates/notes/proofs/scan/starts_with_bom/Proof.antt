@@ -1,7 +1,7 @@
 -- `starts_with_bom` meets its contract: the code's tests are those of the definition, one after the
 -- other.
 use borrow.Author.Needs.{needs}
-use Rattle.notes.proofs.Bom.{tested}
+use Rattle.notes.proofs.Marks.{tested}
 use Rattle.notes.proofs.scan.starts_with_bom.Statement.{statement}
 use Rattle.notes.proofs.scan.starts_with_bom.Tie as tie
 

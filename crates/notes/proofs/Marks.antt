@@ -8,7 +8,7 @@ use borrow.Author.Tests.{le-leb, lt-leb, leb-true, eq-eqb, ne-eqb}
 use lib.Dec.{leb, eqb}
 use lib.ListN.{length, take, drop, getD, length-drop}
 use lib.Seq.{take-all}
-use Rattle.notes.specs.Noting.{startsWithBom, withoutBom}
+use Rattle.notes.specs.Bom.{startsWithBom, withoutBom}
 
 module _ (text : List ℕ) where
   pub too-short : length text < 3 → false ≡ startsWithBom text
