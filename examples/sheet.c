@@ -1,7 +1,7 @@
 /* The desk from C, or C++: tapes in, their sheets out.
  *
- *     rt staticlib desk_abi
- *     gcc -Iinclude examples/sheet.c target/staticlib/libdesk_abi.a -o target/sheet
+ *     rt staticlib vastrudhil
+ *     gcc -Iinclude examples/sheet.c target/staticlib/libvastrudhil.a -o target/sheet
  *     target/sheet < examples/yard.tape
  *     target/sheet examples/yard.tape examples/hill_yard.tape
  *

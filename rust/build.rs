@@ -1,5 +1,5 @@
-//! Links the desk's static library, libdesk_abi.a. It is looked for in the folder that
-//! VASTRUDHIL_LIB names (an absolute path), or else where `rt staticlib desk_abi` leaves it.
+//! Links the desk's static library, libvastrudhil.a. It is looked for in the folder that
+//! VASTRUDHIL_LIB names (an absolute path), or else where `rt staticlib vastrudhil` leaves it.
 //!
 //! The library is for x86-64. For another target nothing is linked, so that the crate can still be
 //! checked there; VASTRUDHIL_LINK=1 links all the same, for a library of one's own making.
@@ -19,14 +19,14 @@ fn main() {
         Some(folder) => PathBuf::from(folder),
         None => PathBuf::from(set_by_cargo("CARGO_MANIFEST_DIR")).join("../target/staticlib"),
     };
-    let library = folder.join("libdesk_abi.a");
+    let library = folder.join("libvastrudhil.a");
     println!("cargo:rerun-if-changed={}", library.display());
     if !library.exists() {
         println!(
-            "cargo:warning=no {}: make it by rt staticlib desk_abi",
+            "cargo:warning=no {}: make it by rt staticlib vastrudhil",
             library.display()
         );
     }
     println!("cargo:rustc-link-search=native={}", folder.display());
-    println!("cargo:rustc-link-lib=static=desk_abi");
+    println!("cargo:rustc-link-lib=static=vastrudhil");
 }

@@ -1,6 +1,6 @@
 #!/usr/bin/env python3
 """Checks that the three places that declare the exported functions agree: include/vastrudhil.h, rust/src/sys.rs, and the crate that is
-compiled, crates/desk_abi. Nothing else would notice, since a linker knows names only. Run from anywhere: tools/declared.py [CRATE], with CRATE
+compiled, crates/vastrudhil. Nothing else would notice, since a linker knows names only. Run from anywhere: tools/declared.py [CRATE], with CRATE
 for another folder of that crate; it prints a line for each difference, and ends with 1 if there is any.
 
 Types are compared in Rust's words. A list of Rattle, `tape: &[u8]`, is two parameters elsewhere, `tape: *const u8` and `tape_len: usize`."""
@@ -13,7 +13,7 @@ from pathlib import Path
 from typing import NamedTuple, NoReturn
 
 ROOT = Path(__file__).resolve().parent.parent
-HEADER, RUST, CRATE = ROOT / "include" / "vastrudhil.h", ROOT / "rust" / "src" / "sys.rs", ROOT / "crates" / "desk_abi"
+HEADER, RUST, CRATE = ROOT / "include" / "vastrudhil.h", ROOT / "rust" / "src" / "sys.rs", ROOT / "crates" / "vastrudhil"
 
 C_NUMBERS = {"bool": "bool", "size_t": "usize"}
 C_NUMBERS |= {f"{u}int{bits}_t": f"{u or 'i'}{bits}" for u in ("", "u") for bits in (8, 16, 32, 64)}

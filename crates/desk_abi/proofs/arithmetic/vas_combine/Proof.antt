@@ -1,8 +1,0 @@
--- `vas_combine` tells what `combine` answers.
-use borrow.Author.Needs.{needs}
-use Rattle.desk_abi.proofs.Telling.{count-as}
-use Rattle.desk_abi.proofs.arithmetic.vas_combine.Statement.{statement}
-use Rattle.desk_abi.proofs.arithmetic.vas_combine.Tie as tie
-
-pub vas-combine-spec : {M : Type 1} → statement M
-vas-combine-spec = tie.close (tie.spec (λ c κs. search needs) (λ c κs. search needs) (λ c. search count-as))

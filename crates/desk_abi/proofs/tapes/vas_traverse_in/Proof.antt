@@ -1,9 +1,0 @@
--- `vas_traverse_in` tells what `traverse_in` answers, and leaves what it leaves.
-use borrow.Author.Needs.{needs}
-use Rattle.desk_abi.proofs.Figures.{lent-fits}
-use Rattle.desk_abi.proofs.Telling.{traverse-as}
-use Rattle.desk_abi.proofs.tapes.vas_traverse_in.Statement.{statement}
-use Rattle.desk_abi.proofs.tapes.vas_traverse_in.Tie as tie
-
-pub vas-traverse-in-spec : {M : Type 1} → statement M
-vas-traverse-in-spec = tie.close (tie.spec (λ c κs. search needs) (λ c κs. search lent-fits) (λ c. search needs) (λ c. (search traverse-as, search needs)))

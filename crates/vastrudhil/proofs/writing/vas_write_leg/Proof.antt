@@ -1,0 +1,8 @@
+-- `vas_write_leg` tells what `write` answers, and leaves what it leaves.
+use borrow.Author.Needs.{needs}
+use Rattle.vastrudhil.proofs.Telling.{writes-as}
+use Rattle.vastrudhil.proofs.writing.vas_write_leg.Statement.{statement}
+use Rattle.vastrudhil.proofs.writing.vas_write_leg.Tie as tie
+
+pub vas-write-leg-spec : {M : Type 1} → statement M
+vas-write-leg-spec = tie.close (tie.spec (λ c κs. search needs) (λ c κs. search needs) (λ c. search needs) (λ c. search writes-as))
