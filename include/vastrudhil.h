@@ -8,7 +8,7 @@
  * Nothing is allocated and no state is kept between calls, so any number of threads may call at
  * once, as long as no memory that one of them writes is lent to another meanwhile. The library is
  * for x86-64 Linux and needs at most memcpy and memset of the C library. A call takes up to 32 KB
- * of stack; up to 8 KB by a lent table, or where no sine is needed.
+ * of stack; by a lent table, and in a function that needs no sine, up to 8 KB.
  *
  * Every function but vas_table returns a number: 0 where the input is accepted, else the number of
  * the refusal. On acceptance every place that is told is 0. docs/REFUSALS.md has what to do about
