@@ -13,18 +13,18 @@ use Rattle.answer.specs.declared.Count.{Count}
 use Rattle.answer.specs.declared.Count.the-variants as count
 use Rattle.answer.specs.declared.Verdict.{Verdict}
 use Rattle.answer.specs.declared.Verdict.the-variants as verdict
-use Rattle.answer.specs.Told.{Told, told, toldCount, toldVerdict, passes}
+use Rattle.answer.specs.Told.{ToldStep, toldAmount, toldCount, toldVerdict, passes}
 use Rattle.answer.proofs.Telling.{one-flag}
 
 -- tellings with different numbers, or different values, are different
-differ : {t u : Told} {A : Type 0} → (t .number ≡ u .number → ⊥) → t ≡ u → A
-differ f e = absurd (f (ap (λ (t : Told). t .number) e))
+differ : {t u : ToldStep} {A : Type 0} → (t .number ≡ u .number → ⊥) → t ≡ u → A
+differ f e = absurd (f (ap (λ (t : ToldStep). t .number) e))
 
-value-of : {t u : Told} → t ≡ u → t .value ≡ u .value
-value-of e = ap (λ (t : Told). t .value) e
+value-of : {t u : ToldStep} → t ≡ u → t .value ≡ u .value
+value-of e = ap (λ (t : ToldStep). t .value) e
 
-one-amount : (x y : Amount) → told x ≡ told y → x ≡ y
-unfolding told
+one-amount : (x y : Amount) → toldAmount x ≡ toldAmount y → x ≡ y
+unfolding toldAmount
 one-amount (amount.Is y) (amount.Is z) e = ap (λ (n : ℤ). amount.Is (record { v = n })) (value-of e)
 one-amount (amount.Is y) amount.OutOfRange e = differ (λ h. omega arith) e
 one-amount amount.OutOfRange (amount.Is z) e = differ (λ h. omega arith) e
@@ -50,20 +50,20 @@ one-verdict verdict.OutOfRange verdict.Fails e = differ (λ h. omega arith) e
 one-verdict verdict.OutOfRange verdict.OutOfRange e = refl
 
 -- ---- two answers that a promise allows
-pub amounts-coincide : (t : Told) (x y : Amount) → told x ≡ t → told y ≡ t → x ≡ y
+pub amounts-coincide : (t : ToldStep) (x y : Amount) → toldAmount x ≡ t → toldAmount y ≡ t → x ≡ y
 amounts-coincide t x y e f = one-amount x y (e ∙ sym f)
 
-pub counts-coincide : (t : Told) (x y : Count) → toldCount x ≡ t → toldCount y ≡ t → x ≡ y
+pub counts-coincide : (t : ToldStep) (x y : Count) → toldCount x ≡ t → toldCount y ≡ t → x ≡ y
 counts-coincide t x y e f = one-count x y (e ∙ sym f)
 
-pub verdicts-coincide : (t : Told) (x y : Verdict) → toldVerdict x ≡ t → toldVerdict y ≡ t → x ≡ y
+pub verdicts-coincide : (t : ToldStep) (x y : Verdict) → toldVerdict x ≡ t → toldVerdict y ≡ t → x ≡ y
 verdicts-coincide t x y e f = one-verdict x y (e ∙ sym f)
 
 -- ---- two values that are told of one answer
 -- `Amount::value`
-pub amount-value-single : (a : Amount) (x y : Whole) → x .v ≡ told a .value
-    → y .v ≡ told a .value → x ≡ y
-amount-value-single a = whole-single (told a .value)
+pub amount-value-single : (a : Amount) (x y : Whole) → x .v ≡ toldAmount a .value
+    → y .v ≡ toldAmount a .value → x ≡ y
+amount-value-single a = whole-single (toldAmount a .value)
 
 -- `Count::value`
 pub count-value-single : (a : Count) (x y : ℕ) → pos x ≡ toldCount a .value

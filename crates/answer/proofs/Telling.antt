@@ -11,11 +11,11 @@ use Rattle.whole.specs.declared.Whole.{Whole}
 use Rattle.answer.specs.declared.Amount.the-variants as amount
 use Rattle.answer.specs.declared.Count.the-variants as count
 use Rattle.answer.specs.declared.Verdict.the-variants as verdict
-use Rattle.answer.specs.Told.{Told, told, toldCount, toldVerdict, given, inRange, inside, passes}
+use Rattle.answer.specs.Told.{ToldStep, toldAmount, toldCount, toldVerdict, given, inRange, inside, passes}
 
 -- ---- the value, where the input is in range
-pub tells : (good : Bool) (v : Whole) (z : ℤ) → good ≡ true → v .v ≡ z → told (amount.Is v) ≡ inRange good z
-unfolding told
+pub tells : (good : Bool) (v : Whole) (z : ℤ) → good ≡ true → v .v ≡ z → toldAmount (amount.Is v) ≡ inRange good z
+unfolding toldAmount
 tells good v z e f = rw e (ap given f)
 
 pub counts : (good : Bool) (n m : ℕ) → good ≡ true → n ≡ m → toldCount (count.Is n) ≡ inRange good (pos m)
@@ -31,8 +31,8 @@ unfolding toldVerdict
 failing good ok e f = rw (e, f)
 
 -- ---- the refusal, where it is not
-pub refuses : (good : Bool) (z : ℤ) → good ≡ false → told amount.OutOfRange ≡ inRange good z
-unfolding told
+pub refuses : (good : Bool) (z : ℤ) → good ≡ false → toldAmount amount.OutOfRange ≡ inRange good z
+unfolding toldAmount
 refuses good z e = rw e
 
 pub refuses-count : (good : Bool) (z : ℤ) → good ≡ false → toldCount count.OutOfRange ≡ inRange good z
@@ -44,8 +44,8 @@ unfolding toldVerdict
 refuses-verdict good z e = rw e
 
 -- ---- for a caller: the value of a step whose input is in range
-pub value-given : (t : Told) (good : Bool) (z : ℤ) → t ≡ inRange good z → good ≡ true → t .value ≡ z
-value-given t good z e h = ap (λ (u : Told). u .value) e ∙ ap (λ (b : Bool). (inRange b z) .value) h
+pub value-given : (t : ToldStep) (good : Bool) (z : ℤ) → t ≡ inRange good z → good ≡ true → t .value ≡ z
+value-given t good z e h = ap (λ (u : ToldStep). u .value) e ∙ ap (λ (b : Bool). (inRange b z) .value) h
 
 -- tests that are told alike are alike
 pub one-flag : (x y : Bool) → passes x ≡ passes y → x ≡ y
@@ -55,7 +55,7 @@ one-flag true false i = absurd (omega (arith, ap natAbs i))
 one-flag false true i = absurd (omega (arith, ap natAbs i))
 
 -- of a test, whether it passes
-pub verdict-given : (t : Told) (good r ok : Bool) → t ≡ inRange good (passes ok) → good ≡ true → passes r ≡ t .value → r ≡ ok
+pub verdict-given : (t : ToldStep) (good r ok : Bool) → t ≡ inRange good (passes ok) → good ≡ true → passes r ≡ t .value → r ≡ ok
 verdict-given t good r ok e h f = one-flag r ok (f ∙ value-given t good (passes ok) e h)
 
 -- ---- the range, from the code's tests

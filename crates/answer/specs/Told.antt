@@ -13,19 +13,19 @@ use Rattle.answer.specs.declared.Count.the-variants as count
 use Rattle.answer.specs.declared.Verdict.{Verdict}
 use Rattle.answer.specs.declared.Verdict.the-variants as verdict
 
-pub record Told : Type 0 where
+pub record ToldStep : Type 0 where
   pub number : ℕ
   pub place : ℕ
   pub value : ℤ
 
-abbrev pub given : ℤ → Told
+abbrev pub given : ℤ → ToldStep
 given z = record { number = 0; place = 0; value = z }
 
-abbrev pub refused : ℕ → ℕ → Told
+abbrev pub refused : ℕ → ℕ → ToldStep
 refused number place = record { number = number; place = place; value = pos 0 }
 
 -- "A public arithmetic step gives 4, place 0, for an input out of the range stated with it"
-abbrev pub inRange : Bool → ℤ → Told
+abbrev pub inRange : Bool → ℤ → ToldStep
 inRange good z = cond good (given z) (refused outOfRange 0)
 
 -- a range as the rules write it, low..high
@@ -37,15 +37,15 @@ abbrev pub passes : Bool → ℤ
 passes good = cond good (pos 1) (pos 0)
 
 -- ---- what each case of an answer tells
-unfoldable pub told : Amount → Told
-told (amount.Is z) = given (z .v)
-told amount.OutOfRange = refused outOfRange 0
+unfoldable pub toldAmount : Amount → ToldStep
+toldAmount (amount.Is z) = given (z .v)
+toldAmount amount.OutOfRange = refused outOfRange 0
 
-unfoldable pub toldCount : Count → Told
+unfoldable pub toldCount : Count → ToldStep
 toldCount (count.Is n) = given (pos n)
 toldCount count.OutOfRange = refused outOfRange 0
 
-unfoldable pub toldVerdict : Verdict → Told
+unfoldable pub toldVerdict : Verdict → ToldStep
 toldVerdict verdict.Passes = given (pos 1)
 toldVerdict verdict.Fails = given (pos 0)
 toldVerdict verdict.OutOfRange = refused outOfRange 0

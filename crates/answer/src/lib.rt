@@ -1,35 +1,37 @@
-// What a public step answers: the value, or a refusal. specs/Told.antt says of every case which number, place and value that is.
+// What a public step answers: the value, or a refusal. specs/Told.antt says of every case which
+// number, place and value that is.
 use whole::Whole;
 ghost use mathlib.Core.Path.{_≡_};
 ghost use lib.IntN.{pos};
-ghost use Rattle.answer.specs.Told.{told, toldCount, toldVerdict, passes};
+ghost use Rattle.answer.specs.Told.{toldAmount, toldCount, toldVerdict, passes};
 
 pub mod limit;
 pub mod refusal;
 
-// Of an arithmetic step: an amount with a sign, or the input was out of the range stated with the step.
+// The answer of an arithmetic step: an amount with a sign, or the input was out of the range stated
+// with the step.
 pub enum Amount {
     Is(Whole),
     OutOfRange,
 }
 
-// Of a step whose answer is never negative.
+// The answer of a step whose value is never negative.
 pub enum Count {
     Is(u64),
     OutOfRange,
 }
 
-// Of a step that tests.
+// The answer of a step that tests.
 pub enum Verdict {
     Passes,
     Fails,
     OutOfRange,
 }
 
-// The value that is told, which is zero on a refusal: for a caller whose input is in range.
+// The value that an answer tells, which is zero on a refusal: for a caller whose input is in range.
 impl Amount {
     pub fn value(self) -> Whole
-        ensures { λ r. ⌜ r .v ≡ told self .value ⌝ }
+        ensures { λ r. ⌜ r .v ≡ toldAmount self .value ⌝ }
     {
         match self {
             Amount::Is(z) => z,

@@ -65,8 +65,8 @@ fn print_answer(answer: Answer) {
             print_place(0, 0);
             print_count(f.legs as u64);
             print_amount(f.w);
-            print_amount(f.north);
-            print_amount(f.east);
+            print_amount(f.north_closure);
+            print_amount(f.east_closure);
             print_count(f.precision);
             print_amount(f.area);
             print_count(f.looped as u64);

@@ -13,10 +13,10 @@ use Rattle.tape.specs.Fields.{fieldsOf}
 use Rattle.steps.proofs.Laws.{product-most}
 use Rattle.desk.specs.declared.Answer.{Answer}
 use Rattle.desk.specs.Angles.{Balanced, balancedTraverse}
-use Rattle.desk.specs.Answer.{Told, told, traversed, traversedWords}
+use Rattle.desk.specs.Answer.{ToldTraverse, toldTraverse, traversed, traversedWords}
 use Rattle.desk.specs.Inside.{Sound}
 use Rattle.desk.specs.Line.{run, adjusted}
-use Rattle.desk.specs.Traverse.{along, longOf, azimuthOf, line, at}
+use Rattle.desk.specs.Traverse.{along, longOf, azimuthOf, line, wordIndex}
 use Rattle.desk.proofs.Accepted.{accepted, accepted-sound, station, first-station, last-station}
 use Rattle.desk.proofs.Running.{grid-most}
 use Rattle.desk.proofs.Settling.{far-run}
@@ -43,21 +43,21 @@ module _ (b : Balanced) (sound : Sound b) (axis : Axis) (k : ℕ) (h : k ≤ b .
       record { meant = omega (arith, product-most 1 1 fine (run (longOf b) (b .legs)) fine-positive (far-run b sound)); near = omega (arith, s) }
 
 -- ---- x and l are what the promise of `traverse` allows for the tape and the lent words
-module _ (tape : List ℕ) (words l : List ℤ) (x : Answer) (e : told x ≡ traversed tape (length words)) (f : l ≡ traversedWords tape words) (accepts : told x .number ≡ 0) where
+module _ (tape : List ℕ) (words l : List ℤ) (x : Answer) (e : toldTraverse x ≡ traversed tape (length words)) (f : l ≡ traversedWords tape words) (accepts : toldTraverse x .number ≡ 0) where
   abbrev b : Balanced
   b = balancedTraverse (fieldsOf tape)
 
   number : traversed tape (length words) .number ≡ 0
-  number = ap (λ (t : Told). t .number) (sym e) ∙ accepts
+  number = ap (λ (t : ToldTraverse). t .number) (sym e) ∙ accepts
 
   sound : Sound b
   sound = accepted-sound entry tape (length words) (accepted entry tape (length words) number)
 
-  pub corner : (axis : Axis) (k : ℕ) → k ≤ b .legs → StandsWithin (bound (b .legs) k) (getD l (at axis k) (pos 0)) (unroundedAt axis b k)
+  pub corner : (axis : Axis) (k : ℕ) → k ≤ b .legs → StandsWithin (bound (b .legs) k) (getD l (wordIndex axis k) (pos 0)) (unroundedAt axis b k)
   corner axis k h = rw (f, station entry tape words number axis k h) (station-near b sound axis k h)
 
-  pub first-corner : (axis : Axis) → getD l (at axis 0) (pos 0) ≡ pos (along axis (fieldsOf tape .opening .from))
+  pub first-corner : (axis : Axis) → getD l (wordIndex axis 0) (pos 0) ≡ pos (along axis (fieldsOf tape .opening .from))
   first-corner axis = rw f (first-station entry tape words number axis)
 
-  pub last-corner : (axis : Axis) → getD l (at axis (fieldsOf tape .line .legs)) (pos 0) ≡ pos (along axis (fieldsOf tape .closing .to))
+  pub last-corner : (axis : Axis) → getD l (wordIndex axis (fieldsOf tape .line .legs)) (pos 0) ≡ pos (along axis (fieldsOf tape .closing .to))
   last-corner axis = rw f (last-station entry tape words number axis)

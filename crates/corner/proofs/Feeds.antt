@@ -8,8 +8,8 @@ use borrow.Author.Tests.{ne-eqb}
 use lib.IntN.{ℤ, pos, natAbs}
 use lib.Signed.{ltZ}
 use Rattle.whole.proofs.Branch.{by-test}
-use Rattle.text.specs.Text.{ascii, digits, places, decimal, pointed, sign, amount, signed, plain}
-use Rattle.desk.specs.Answer.{Told}
+use Rattle.text.specs.Text.{ascii, digits, digitCount, decimal, pointed, sign, amount, signed, plain}
+use Rattle.desk.specs.Answer.{ToldTraverse}
 use Rattle.desk.specs.Sheet.{closures, closeLine, stationLine, lineOf, stationLines}
 use Rattle.desk.proofs.ShownLines.{linesBefore}
 use Rattle.corner.specs.Printed.{feeds}
@@ -35,7 +35,7 @@ digits-none (suc k) n =
 
 decimal-none : (n : ℕ) → None (decimal n)
 unfolding decimal
-decimal-none n = digits-none (places n) n
+decimal-none n = digits-none (digitCount n) n
 
 amount-none : (plus : List ℕ) → None plus → (d : ℕ) (z : ℤ) → None (amount plus d z)
 unfolding amount sign pointed feeds
@@ -103,11 +103,11 @@ station-line k n e =
     (none-append (ascii " ") (plain 2 n) refl (amount-none [] refl 2 n))
     (none-append (ascii " ") (plain 2 e) refl (amount-none [] refl 2 e)))))
 
-pub before-ends : (t : Told) (words : List ℤ) (k : ℕ) → Ends (linesBefore t words k) k
+pub before-ends : (t : ToldTraverse) (words : List ℤ) (k : ℕ) → Ends (linesBefore t words k) k
 unfolding stationLines lineOf
 before-ends t words zero =
-    rw append-nil (close-line (t .w) (t .north) (t .east) (t .precision))
+    rw append-nil (close-line (t .w) (t .northClosure) (t .eastClosure) (t .precision))
 before-ends t words (suc k) =
-    rw (sym (append-assoc (closeLine (t .w) (t .north) (t .east) (t .precision))
+    rw (sym (append-assoc (closeLine (t .w) (t .northClosure) (t .eastClosure) (t .precision))
     (stationLines words k) (lineOf words k)))
     (next-line k _ _ (before-ends t words k) (station-line k _ _))

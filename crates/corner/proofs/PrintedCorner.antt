@@ -16,8 +16,8 @@ use Rattle.text.proofs.ReadBack.{plain-back}
 use Rattle.desk.specs.declared.Page.{Page}
 use Rattle.desk.specs.Angles.{Balanced, balancedTraverse}
 use Rattle.desk.specs.Sheet.{footDecimals, stationLine, lineOf, textOf, ownWords, answered}
-use Rattle.desk.specs.Sheet.{stations, told, Showed}
-use Rattle.desk.specs.Traverse.{along, at}
+use Rattle.desk.specs.Sheet.{sheetWords, toldSheet, Showed}
+use Rattle.desk.specs.Traverse.{along, wordIndex}
 use Rattle.desk.proofs.Accepted.{Accepted, accepted, accepted-legs, accepted-sound}
 use Rattle.desk.proofs.Accepted.{station, first-station, last-station}
 use Rattle.desk.proofs.ShownLines.{line-in-text, showed-accepts, showed-text, showed-sheet}
@@ -51,7 +51,7 @@ module _ (tape : List ℕ) (number : answered entry tape .number ≡ 0) where
 
   -- a station's word, its text, and what is read from that
   abbrev word : Axis → ℕ → ℤ
-  word axis k = getD (stations entry tape) (at axis k) (pos 0)
+  word axis k = getD (sheetWords entry tape) (wordIndex axis k) (pos 0)
 
   abbrev wordText : Axis → ℕ → List ℕ
   wordText axis k = plain footDecimals (word axis k)
@@ -69,20 +69,20 @@ module _ (tape : List ℕ) (number : answered entry tape .number ≡ 0) where
   last-word axis k e = rw e (last-station entry tape ownWords number axis)
 
   text-corner : (k : ℕ) → k ≤ b .legs
-      → PrintedWithin tape (textOf (answered entry tape) (stations entry tape)) k
+      → PrintedWithin tape (textOf (answered entry tape) (sheetWords entry tape)) k
   unfolding lineOf stationLine
   text-corner k h =
       let few : k ≤ answered entry tape .legs =
       omega (arith, accepted-legs entry tape (length ownWords) taken) in
       let sound = accepted-sound entry tape (length ownWords) taken in
-      let i = line-in-text (answered entry tape) (stations entry tape) k few in
-      let c = before-ends (answered entry tape) (stations entry tape) k in
+      let i = line-in-text (answered entry tape) (sheetWords entry tape) k few in
+      let c = before-ends (answered entry tape) (sheetWords entry tape) k in
       record {
         before = c .start;
         after = i .0;
         text = λ axis. wordText axis k;
         lines = c .lines;
-        line = rw (c .is) at (i .1);
+        line = rw (c .is) wordIndex (i .1);
         exact = λ axis. sym (ap (plain footDecimals) (read axis k));
         near =
             λ axis. rw (read axis k, station entry tape ownWords number axis k h)
@@ -93,12 +93,12 @@ module _ (tape : List ℕ) (number : answered entry tape .number ≡ 0) where
 
 -- ---- r and left are what the promise of `sheet` allows for the tape and the lent bytes
 module _ (tape out left : List ℕ) (r : Page) (s : Showed entry tape out left r)
-    (accepts : told r .number ≡ 0) (k : ℕ) (h : k ≤ traverseOf tape .legs) where
-  in-text : PrintedWithin tape (textOf (answered entry tape) (stations entry tape)) k
+    (accepts : toldSheet r .number ≡ 0) (k : ℕ) (h : k ≤ traverseOf tape .legs) where
+  in-text : PrintedWithin tape (textOf (answered entry tape) (sheetWords entry tape)) k
   in-text = text-corner tape (showed-accepts entry tape out left r s accepts) k h
 
   -- in the sheet, which is as many bytes as are told
-  pub sheet-corner : PrintedWithin tape (take (told r .length) left) k
+  pub sheet-corner : PrintedWithin tape (take (toldSheet r .length) left) k
   sheet-corner = rw (showed-sheet entry tape out left r s accepts) in-text
 
   -- and so in all the lent bytes

@@ -13,8 +13,8 @@ use Rattle.tape.specs.Tape.{tapeOf}
 use Rattle.desk.specs.declared.Answer.{Answer}
 use Rattle.desk.specs.declared.Answer.the-variants.{Adjusted}
 use Rattle.desk.specs.Angles.{Balanced, balancedTraverse}
-use Rattle.desk.specs.Answer.{Told}
-use Rattle.desk.specs.Traverse.{at}
+use Rattle.desk.specs.Answer.{ToldTraverse}
+use Rattle.desk.specs.Traverse.{wordIndex}
 use Rattle.desk.proofs.Accepted.{accepted, accepted-legs}
 use Rattle.desk.proofs.Printed.{records, answer, stations, printed-told, printed-words}
 use Rattle.corner.specs.Unrounded.{unroundedAt, StandsWithin, bound}
@@ -29,8 +29,8 @@ adjusted =
     Adjusted (record {
       legs = answer .legs;
       w = record { v = answer .w };
-      north = record { v = answer .north };
-      east = record { v = answer .east };
+      «north_closure» = record { v = answer .northClosure };
+      «east_closure» = record { v = answer .eastClosure };
       precision = answer .precision;
       area = record { v = answer .area };
       looped = answer .loop;
@@ -42,14 +42,14 @@ words = stations ++ replicate 120 (pos 0)
 four : yard .legs ≡ 4
 four =
     sym (accepted-legs entry (tapeOf records) 130
-    (accepted entry (tapeOf records) 130 (ap (λ (t : Told). t .number) printed-told)))
-    ∙ ap (λ (t : Told). t .legs) printed-told
+    (accepted entry (tapeOf records) 130 (ap (λ (t : ToldTraverse). t .number) printed-told)))
+    ∙ ap (λ (t : ToldTraverse). t .legs) printed-told
 
 station-2 : (axis : Axis)
-    → StandsWithin (bound 4 2) (getD words (at axis 2) (pos 0)) (unroundedAt axis yard 2)
+    → StandsWithin (bound 4 2) (getD words (wordIndex axis 2) (pos 0)) (unroundedAt axis yard 2)
 unfolding words
 station-2 axis =
-    let word = getD words (at axis 2) (pos 0) in
+    let word = getD words (wordIndex axis 2) (pos 0) in
     subst (λ (n : ℕ). StandsWithin (bound n 2) word (unroundedAt axis yard 2)) four
     (corner (tapeOf records) (replicate 130 (pos 0)) words adjusted (sym printed-told)
     (sym (printed-words (pos 0))) refl axis 2 (omega (arith, four)))

@@ -8,7 +8,7 @@ use Rattle.desk.specs.Line.{Line, run, runAll, preliminary, closure}
 use Rattle.desk.specs.Traverse.{along, longOf, azimuthOf}
 use Rattle.desk.specs.Angles.{Balanced}
 
--- so many parts, of which so many make a hundredth of a foot
+-- a number of parts, and how many of them make a hundredth of a foot
 pub record Fraction : Type 0 where
   pub parts : ℤ
   pub of : ℕ
@@ -44,7 +44,8 @@ unfoldable pub unrounded : Line → ℕ → ℤ
 unrounded l k = pos (runAll l) *ℤ preliminary l k -ℤ closure l *ℤ pos (run (l .long) k)
 
 abbrev pub unroundedAt : Axis → Balanced → ℕ → Fraction
-unroundedAt axis b k = record { parts = unrounded (exactLine axis b) k; of = fine * run (longOf b) (b .legs) }
+unroundedAt axis b k =
+    record { parts = unrounded (exactLine axis b) k; of = fine * run (longOf b) (b .legs) }
 
 -- ---- z and a fraction differ by at most p / 100 hundredths of a foot
 pub record StandsWithin (p : ℕ) (z : ℤ) (x : Fraction) : Type 0 where

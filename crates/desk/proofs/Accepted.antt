@@ -21,10 +21,10 @@ use Rattle.tape.specs.Fields.{fieldsOf, DoesRead}
 use Rattle.whole.proofs.Branch.{by-test}
 use Rattle.tape.proofs.Refusals.{reading-number}
 use Rattle.desk.specs.Angles.{misclosureOf, Balanced, balancedTraverse}
-use Rattle.desk.specs.Answer.{Told, First, firstIf, firstOf, checkedAngles, northClosure, eastClosure, distanceRun, closesOn, second, secondWords, afterFirst, firstFor, traversedBy, traversedWordsBy}
+use Rattle.desk.specs.Answer.{ToldTraverse, First, firstIf, firstOf, checkedAngles, northClosure, eastClosure, distanceRun, closesOn, adjustedTraverse, adjustedWords, afterFirst, firstFor, traversedBy, traversedWordsBy}
 use Rattle.desk.specs.Inside.{Sound}
 use Rattle.desk.specs.Line.{closure, adjusted}
-use Rattle.desk.specs.Traverse.{along, line, at, placed}
+use Rattle.desk.specs.Traverse.{along, line, wordIndex, withStations}
 use Rattle.desk.proofs.Balancing.{misclosure-most, sound-of}
 use Rattle.desk.proofs.Settling.{run-small, closes-near}
 use Rattle.desk.proofs.Stations.{place-small, area-most}
@@ -43,23 +43,23 @@ pub record Accepted (e : ℕ → ℤ) (tape : List ℕ) (room : ℕ) : Type 0 wh
   pub closes : closesOn e (balancedTape tape) ≡ true
 
 -- what each number that it is told is at most
-pub record Sized (t : Told) : Type 0 where
+pub record Sized (t : ToldTraverse) : Type 0 where
   pub legs : t .legs ≤ 64
   pub w : natAbs (t .w) ≤ halfCircle
-  pub north : natAbs (t .north) ≤ 26000
-  pub east : natAbs (t .east) ≤ 26000
+  pub north : natAbs (t .northClosure) ≤ 26000
+  pub east : natAbs (t .eastClosure) ≤ 26000
   pub precision : t .precision ≤ 1300000000
   pub area : natAbs (t .area) ≤ 64 * 33800000000000000
 
 module _ (e : ℕ → ℤ) (tape : List ℕ) (room : ℕ) where
-  abbrev Shown : Told → Type 0
+  abbrev Shown : ToldTraverse → Type 0
   Shown t = t .number ≡ 0 → Accepted e tape room
 
   abbrev ShownAfter : First → Type 0
   ShownAfter x = Shown (afterFirst e x)
 
   pub accepted : Shown (traversedBy e tape room)
-  unfolding traversedBy firstFor firstOf checkedAngles second
+  unfolding traversedBy firstFor firstOf checkedAngles adjustedTraverse
   accepted = by-test ShownAfter (ltb room 130) (λ few z. absurd (omega arith)) (λ wide. go (readingOf tape) refl (ltb-false room 130 wide))
     where
       go : (r : Reading) → readingOf tape ≡ r → 130 ≤ room → ShownAfter (firstIf r (fieldsOf tape))
@@ -72,14 +72,14 @@ module _ (e : ℕ → ℤ) (tape : List ℕ) (room : ℕ) where
           (λ a z. absurd (omega arith))
 
   -- no number is above 9
-  abbrev Nine : Told → Type 0
+  abbrev Nine : ToldTraverse → Type 0
   Nine t = t .number ≤ 9
 
   abbrev NineAfter : First → Type 0
   NineAfter x = Nine (afterFirst e x)
 
   pub number-most : Nine (traversedBy e tape room)
-  unfolding traversedBy firstFor firstOf checkedAngles second
+  unfolding traversedBy firstFor firstOf checkedAngles adjustedTraverse
   number-most = by-test NineAfter (ltb room 130) (λ few. omega arith) (λ wide. go (readingOf tape) refl)
     where
       go : (r : Reading) → readingOf tape ≡ r → NineAfter (firstIf r (fieldsOf tape))
@@ -89,19 +89,19 @@ module _ (e : ℕ → ℤ) (tape : List ℕ) (room : ℕ) where
           (λ a. by-test Nine (closesOn e (balancedTape tape)) (λ c. omega arith) (λ c. omega arith)) (λ a. omega arith)
 
   -- and the answer is that of the second step
-  pub accepted-told : Accepted e tape room → traversedBy e tape room ≡ second e (balancedTape tape)
+  pub accepted-told : Accepted e tape room → traversedBy e tape room ≡ adjustedTraverse e (balancedTape tape)
   unfolding traversedBy firstFor firstOf checkedAngles
   accepted-told a = rw (le-ltb room 130 (a .wide), a .reads .reads, a .angles)
 
   pub accepted-legs : Accepted e tape room → traversedBy e tape room .legs ≡ balancedTape tape .legs
-  unfolding second
+  unfolding adjustedTraverse
   accepted-legs a = rw (accepted-told a, a .closes)
 
   pub accepted-sound : Accepted e tape room → Sound (balancedTape tape)
   accepted-sound a = sound-of (fieldsOf tape) (tape-ready tape (a .reads))
 
   pub accepted-sized : Entries e → Accepted e tape room → Sized (traversedBy e tape room)
-  unfolding second balancedTraverse misclosureOf
+  unfolding adjustedTraverse balancedTraverse misclosureOf
   accepted-sized entries a =
       let b = balancedTape tape in
       let f = fieldsOf tape in
@@ -129,21 +129,21 @@ module _ (e : ℕ → ℤ) (tape : List ℕ) (words : List ℤ) (none : traverse
   sound : Sound b
   sound = accepted-sound e tape (length words) a
 
-  pub accepted-words : traversedWordsBy e tape words ≡ placed e b (b .legs + 1) words
-  unfolding traversedWordsBy firstFor firstOf checkedAngles secondWords
+  pub accepted-words : traversedWordsBy e tape words ≡ withStations e b (b .legs + 1) words
+  unfolding traversedWordsBy firstFor firstOf checkedAngles adjustedWords
   accepted-words = rw (le-ltb (length words) 130 (a .wide), a .reads .reads, a .angles, a .closes)
 
-  pub station : (axis : Axis) (k : ℕ) → k ≤ b .legs → getD (traversedWordsBy e tape words) (at axis k) (pos 0) ≡ adjusted (line e axis b) k
+  pub station : (axis : Axis) (k : ℕ) → k ≤ b .legs → getD (traversedWordsBy e tape words) (wordIndex axis k) (pos 0) ≡ adjusted (line e axis b) k
   station axis k h = rw accepted-words (word-at e b words axis (b .legs + 1) k (omega arith) (omega (arith, sound .few, a .wide)))
 
-  pub word-small : Entries e → (axis : Axis) (k : ℕ) → k ≤ b .legs → natAbs (getD (traversedWordsBy e tape words) (at axis k) (pos 0)) < 2 ^ 40
+  pub word-small : Entries e → (axis : Axis) (k : ℕ) → k ≤ b .legs → natAbs (getD (traversedWordsBy e tape words) (wordIndex axis k) (pos 0)) < 2 ^ 40
   word-small entries axis k h = place-small e entries b sound axis k (closes-near b sound e axis (a .closes)) h _ (station axis k h)
 
-  pub first-station : (axis : Axis) → getD (traversedWordsBy e tape words) (at axis 0) (pos 0) ≡ pos (along axis (fieldsOf tape .opening .from))
+  pub first-station : (axis : Axis) → getD (traversedWordsBy e tape words) (wordIndex axis 0) (pos 0) ≡ pos (along axis (fieldsOf tape .opening .from))
   unfolding balancedTraverse
   first-station axis = rw accepted-words (first-word e b words sound (a .wide) axis)
 
-  pub last-station : (axis : Axis) → getD (traversedWordsBy e tape words) (at axis (fieldsOf tape .line .legs)) (pos 0) ≡ pos (along axis (fieldsOf tape .closing .to))
+  pub last-station : (axis : Axis) → getD (traversedWordsBy e tape words) (wordIndex axis (fieldsOf tape .line .legs)) (pos 0) ≡ pos (along axis (fieldsOf tape .closing .to))
   unfolding balancedTraverse
   last-station axis = rw accepted-words (last-word e b words sound (a .wide) axis)
 

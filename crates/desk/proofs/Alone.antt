@@ -10,8 +10,8 @@ use lib.IntN.{ℤ}
 use Rattle.steps.specs.Azimuth.{closesAngles}
 use Rattle.tape.specs.Fields.{Fields, fieldsOf, DoesRead}
 use Rattle.desk.specs.Angles.{misclosureOf, Balanced, balancedTraverse}
-use Rattle.desk.specs.Answer.{stopped, good, checkedAngles, firstOf, closesOn, second, secondWords, firstFor, traversedBy, wordsAfterFirst, traversedWordsBy}
-use Rattle.desk.specs.Traverse.{placed, offsetsTo, areaOf}
+use Rattle.desk.specs.Answer.{stopped, good, checkedAngles, firstOf, closesOn, adjustedTraverse, adjustedWords, firstFor, traversedBy, wordsAfterFirst, traversedWordsBy}
+use Rattle.desk.specs.Traverse.{withStations, offsetsTo, areaOf}
 use Rattle.desk.proofs.Accepted.{Accepted, accepted, accepted-told}
 
 -- the fields of a tape, the places where its line begins and where its close stands put aside
@@ -53,8 +53,8 @@ module _ (f : Fields) where
 
 -- ---- the second step
 module _ (e : ℕ → ℤ) (b : Balanced) where
-  placed-bare : (k : ℕ) (words : List ℤ) → placed e b k words ≡ placed e (bareTraverse b) k words
-  unfolding placed
+  placed-bare : (k : ℕ) (words : List ℤ) → withStations e b k words ≡ withStations e (bareTraverse b) k words
+  unfolding withStations
   placed-bare zero words = refl
   placed-bare (suc k) words = rw (placed-bare k words)
 
@@ -67,12 +67,12 @@ module _ (e : ℕ → ℤ) (b : Balanced) where
   unfolding closesOn
   same-test = refl
 
-  same-second : closesOn e b ≡ true → second e b ≡ second e (bareTraverse b)
-  unfolding second areaOf
+  same-second : closesOn e b ≡ true → adjustedTraverse e b ≡ adjustedTraverse e (bareTraverse b)
+  unfolding adjustedTraverse areaOf
   same-second h = rw (same-test, h, offsets-bare (b .legs))
 
-  same-words : (words : List ℤ) → secondWords e b words ≡ secondWords e (bareTraverse b) words
-  unfolding secondWords
+  same-words : (words : List ℤ) → adjustedWords e b words ≡ adjustedWords e (bareTraverse b) words
+  unfolding adjustedWords
   same-words words = rw (same-test, placed-bare (b .legs + 1) words)
 
 module _ (e : ℕ → ℤ) (f : Fields) where
@@ -82,21 +82,21 @@ module _ (e : ℕ → ℤ) (f : Fields) where
   closes-bare : closesOn e b ≡ closesOn e (balancedTraverse (bare f))
   closes-bare = sym (same-test e b) ∙ ap (closesOn e) (traverse-bare f)
 
-  second-bare : closesOn e b ≡ true → second e b ≡ second e (balancedTraverse (bare f))
-  second-bare h = same-second e b h ∙ ap (second e) (traverse-bare f)
+  second-bare : closesOn e b ≡ true → adjustedTraverse e b ≡ adjustedTraverse e (balancedTraverse (bare f))
+  second-bare h = same-second e b h ∙ ap (adjustedTraverse e) (traverse-bare f)
 
-  words-bare : (words : List ℤ) → secondWords e b words ≡ secondWords e (balancedTraverse (bare f)) words
-  words-bare words = same-words e b words ∙ ap (λ (x : Balanced). secondWords e x words) (traverse-bare f)
+  words-bare : (words : List ℤ) → adjustedWords e b words ≡ adjustedWords e (balancedTraverse (bare f)) words
+  words-bare words = same-words e b words ∙ ap (λ (x : Balanced). adjustedWords e x words) (traverse-bare f)
 
   -- the words, from the fields
   abbrev wordsFrom : List ℤ → List ℤ
-  wordsFrom words = cond (closesAngles (misclosureOf f) (f .line .legs)) (secondWords e b words) words
+  wordsFrom words = cond (closesAngles (misclosureOf f) (f .line .legs)) (adjustedWords e b words) words
 
   words-from : (words : List ℤ) → wordsAfterFirst e (checkedAngles f) words ≡ wordsFrom words
   unfolding checkedAngles
   words-from words = go (closesAngles (misclosureOf f) (f .line .legs))
     where
-      go : (x : Bool) → wordsAfterFirst e (cond x (good b) (stopped 8 (f .closing .place))) words ≡ cond x (secondWords e b words) words
+      go : (x : Bool) → wordsAfterFirst e (cond x (good b) (stopped 8 (f .closing .place))) words ≡ cond x (adjustedWords e b words) words
       go true = refl
       go false = refl
 
@@ -124,7 +124,7 @@ module _ (e : ℕ → ℤ) (s t : List ℕ) (a : DoesRead s) (b : DoesRead t) (s
   fields-alone room none =
       let x = accepted e s room none in
       let y = both room x in
-      accepted-told e s room x ∙ by-bare (λ u. second e (balancedTraverse u)) (second-bare e f (x .closes)) (second-bare e g (y .closes)) ∙ sym (accepted-told e t room y)
+      accepted-told e s room x ∙ by-bare (λ u. adjustedTraverse e (balancedTraverse u)) (second-bare e f (x .closes)) (second-bare e g (y .closes)) ∙ sym (accepted-told e t room y)
 
   pub fields-alone-words : (words : List ℤ) → traversedWordsBy e s words ≡ traversedWordsBy e t words
   unfolding traversedWordsBy firstFor firstOf

@@ -15,7 +15,7 @@ use Rattle.whole.proofs.Diff.{vars, ints, abs-under, le, lt}
 use Rattle.answer.specs.declared.Amount.{Amount}
 use Rattle.answer.specs.declared.Count.{Count}
 use Rattle.answer.specs.declared.Verdict.{Verdict}
-use Rattle.answer.specs.Told.{told, toldCount, toldVerdict, inside, passes}
+use Rattle.answer.specs.Told.{toldAmount, toldCount, toldVerdict, inside, passes}
 use Rattle.answer.proofs.Telling.{value-given, verdict-given, both, inside-yes}
 use Rattle.minutes.specs.Quadrant.{circle}
 use Rattle.steps.specs.Azimuth.{halfCircle, misclosure, closesAngles, balanced, ofAngles, misclosureStep, misclosureTest, balancedStep}
@@ -54,7 +54,7 @@ angles-close r x w n t f small low high =
 -- ---- the balanced azimuth of a leg
 module _ (p : Amount) (r : Count) (n azimuth j angles : ℕ) (s w : ℤ)
     (f : pos n ≡ toldCount r .value) (e : toldCount r ≡ balancedStep azimuth s)
-    (i : s ≡ told p .value) (g : told p ≡ angleShareStep w j (angles - 1))
+    (i : s ≡ toldAmount p .value) (g : toldAmount p ≡ angleShareStep w j (angles - 1))
     (turned : azimuth < circle) (small : natAbs w ≤ 6480000)
     (reach : j ≤ angles) (some : 2 ≤ angles) (few : angles ≤ 65) where
   one-more : angles - 1 + 1 ≡ angles
@@ -65,7 +65,7 @@ module _ (p : Amount) (r : Count) (n azimuth j angles : ℕ) (s w : ℤ)
 
   part-is : s ≡ share w j angles
   part-is =
-      i ∙ value-given (told p) _ _ g
+      i ∙ value-given (toldAmount p) _ _ g
       (both _ _ (both _ _ (le-leb (natAbs w) 6480000 small) in-range)
       (le-leb j (angles - 1 + 1) (omega arith)))
       ∙ ap (share w j) one-more
@@ -98,9 +98,9 @@ module _ (w : ℤ) (legs ahead angles k : ℕ) (l m : List ℕ) (h : k < legs) (
   balancing-next r g = filled-on (balancedBy w ahead angles l) l k r m e (g ∙ rw unbalanced-yet)
 
 -- ---- the misclosure
-module _ (r : Amount) (v : ℤ) (closing given : ℕ) (g : v ≡ told r .value) (e : told r ≡ misclosureStep closing given) (h : closing < circle) (i : given < circle) where
+module _ (r : Amount) (v : ℤ) (closing given : ℕ) (g : v ≡ toldAmount r .value) (e : toldAmount r ≡ misclosureStep closing given) (h : closing < circle) (i : given < circle) where
   pub misclosure-value : v ≡ misclosure closing given
-  misclosure-value = g ∙ value-given (told r) _ _ e (both _ _ (lt-ltb closing circle h) (lt-ltb given circle i))
+  misclosure-value = g ∙ value-given (toldAmount r) _ _ e (both _ _ (lt-ltb closing circle h) (lt-ltb given circle i))
 
   pub misclosure-small : natAbs v ≤ 6480000
   misclosure-small = rw misclosure-value (misclosure-most closing given)

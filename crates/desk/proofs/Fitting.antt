@@ -9,12 +9,12 @@ use lib.ListN.{length, getD, length-append}
 use lib.IntN.{ℤ, pos, natAbs}
 use Rattle.steps.specs.Course.{Axis, north, east}
 use Rattle.sines.proofs.Own.{Entries}
-use Rattle.desk.specs.Answer.{Told as Traversed}
-use Rattle.desk.specs.Traverse.{at}
+use Rattle.desk.specs.Answer.{ToldTraverse}
+use Rattle.desk.specs.Traverse.{wordIndex}
 use Rattle.desk.proofs.Accepted.{Sized, accepted, accepted-legs, accepted-sized, word-small}
 use Rattle.text.specs.Text.{ascii}
 use Rattle.text.proofs.Lengths.{decimal-most, amount-most}
-use Rattle.desk.specs.Sheet.{closures, closeLine, stationLine, lineOf, stationLines, areaLine, textOf, ownWords, answered, stations}
+use Rattle.desk.specs.Sheet.{closures, closeLine, stationLine, lineOf, stationLines, areaLine, textOf, ownWords, answered, sheetWords}
 
 -- ---- lines
 close-most : (w n e : ℤ) (p : ℕ) → natAbs w < 10 ^ 19 → natAbs n < 10 ^ 19 → natAbs e < 10 ^ 19 → p < 10 ^ 19 → length (closeLine w n e p) ≤ 120
@@ -36,31 +36,31 @@ area-most z false h = omega arith
 
 -- the words of the first n stations are small
 abbrev Small : List ℤ → ℕ → Type 0
-Small words n = (axis : Axis) (k : ℕ) → k < n → natAbs (getD words (at axis k) (pos 0)) < 2 ^ 40
+Small words n = (axis : Axis) (k : ℕ) → k < n → natAbs (getD words (wordIndex axis k) (pos 0)) < 2 ^ 40
 
 stations-most : (words : List ℤ) (n : ℕ) → n < 100 → Small words n → length (stationLines words n) ≤ 40 * n
 unfolding stationLines lineOf
 stations-most words zero h small = omega arith
 stations-most words (suc k) h small =
-    let n = getD words (at north k) (pos 0) in
-    let e = getD words (at east k) (pos 0) in
+    let n = getD words (wordIndex north k) (pos 0) in
+    let e = getD words (wordIndex east k) (pos 0) in
     let before = stations-most words k (omega arith) (λ axis j i. small axis j (omega arith)) in
     simp length-append (omega (arith, before, station-most k n e (omega arith) (small north k (omega arith)) (small east k (omega arith))))
 
-text-most : (t : Traversed) (words : List ℤ) → Sized t → Small words (t .legs + 1) → length (textOf t words) ≤ 4096
+text-most : (t : ToldTraverse) (words : List ℤ) → Sized t → Small words (t .legs + 1) → length (textOf t words) ≤ 4096
 unfolding textOf
 text-most t words s small =
     simp length-append
     (omega (
       arith,
       s .legs,
-      close-most (t .w) (t .north) (t .east) (t .precision) (omega (arith, s .w)) (omega (arith, s .north)) (omega (arith, s .east)) (omega (arith, s .precision)),
+      close-most (t .w) (t .northClosure) (t .eastClosure) (t .precision) (omega (arith, s .w)) (omega (arith, s .north)) (omega (arith, s .east)) (omega (arith, s .precision)),
       stations-most words (t .legs + 1) (omega (arith, s .legs)) small,
       area-most (t .area) (t .loop) (omega (arith, s .area)),
     ))
 
-pub sheet-fits : (e : ℕ → ℤ) → Entries e → (tape : List ℕ) → answered e tape .number ≡ 0 → length (textOf (answered e tape) (stations e tape)) ≤ 4096
+pub sheet-fits : (e : ℕ → ℤ) → Entries e → (tape : List ℕ) → answered e tape .number ≡ 0 → length (textOf (answered e tape) (sheetWords e tape)) ≤ 4096
 sheet-fits e entries tape none =
     let a = accepted e tape 130 none in
-    text-most (answered e tape) (stations e tape) (accepted-sized e tape 130 entries a)
+    text-most (answered e tape) (sheetWords e tape) (accepted-sized e tape 130 entries a)
     (λ axis k h. word-small e tape ownWords none entries axis k (omega (arith, accepted-legs e tape 130 a)))

@@ -5,7 +5,6 @@ pub mod Carrying
 pub mod Compass
 pub mod Enough
 pub mod Fitting
-pub mod Looping
 pub mod OwnTable
 pub mod Paging
 pub mod Pairs
@@ -19,7 +18,6 @@ pub mod Scaling
 pub mod Settling
 pub mod ShownLines
 pub mod Single
-pub mod StationLines
 pub mod Stations
 pub mod Stepping
 pub mod Turning

@@ -13,7 +13,7 @@ use Rattle.steps.specs.Azimuth.{closesAngles}
 use Rattle.tape.specs.Fields.{fieldsOf}
 use Rattle.tape.specs.declared.Control.{Control}
 use Rattle.desk.specs.Angles.{misclosureOf}
-use Rattle.desk.specs.Answer.{told, refused, First, checkedAngles}
+use Rattle.desk.specs.Answer.{toldTraverse, refusedTraverse, First, checkedAngles}
 use Rattle.desk.specs.Answer.{afterFirst, wordsAfterFirst}
 use Rattle.desk.specs.Inside.{Known}
 use Rattle.desk.specs.Sheet.{ownWords, shown, shownBytes, Showed}
@@ -26,8 +26,8 @@ use Rattle.desk.proofs.Paging.{showed}
 
 -- ---- by the desk's own table every entry is the paper's
 module _ (t : List ℕ) (right : Table t) where
-  pub own-told : (x : First) (r : Answer) → told r ≡ afterFirst (entryIn t) x
-      → told r ≡ afterFirst entry x
+  pub own-told : (x : First) (r : Answer) → toldTraverse r ≡ afterFirst (entryIn t) x
+      → toldTraverse r ≡ afterFirst entry x
   own-told x r g = g ∙ ap (λ (e : ℕ → ℤ). afterFirst e x) (own-entries t right)
 
   pub own-words : (x : First) (l words : List ℤ) → l ≡ wordsAfterFirst (entryIn t) x words
@@ -44,7 +44,7 @@ module _ (t : List ℕ) (right : Table t) where
 module _ (tape : List ℕ) (c : Control) (known : Known tape c) (x : Bool)
     (tested : x ≡ closesAngles (misclosureOf (fieldsOf tape)) (fieldsOf tape .line .legs))
     (h : x ≡ false) (e : ℕ → ℤ) where
-  pub fails-told : refused 8 (c .place) ≡ afterFirst e (checkedAngles (fieldsOf tape))
+  pub fails-told : refusedTraverse 8 (c .place) ≡ afterFirst e (checkedAngles (fieldsOf tape))
   fails-told = ap (afterFirst e) (checked-fails tape c known x tested h)
 
   pub fails-words : (words : List ℤ)

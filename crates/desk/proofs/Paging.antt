@@ -16,7 +16,7 @@ use Rattle.tape.specs.declared.Control.{Control}
 use Rattle.tape.specs.declared.Taken.{Taken}
 use Rattle.tape.specs.declared.Taken.the-variants as taken
 use Rattle.desk.specs.Answer.{checkedAngles, afterFirst, wordsAfterFirst, traversedBy, traversedWordsBy}
-use Rattle.desk.specs.Answer.{told as toldTraverse}
+use Rattle.desk.specs.Answer.{toldTraverse}
 use Rattle.desk.proofs.Accepted.{accepted, accepted-sized}
 use Rattle.desk.proofs.Single.{refused-some}
 use Rattle.desk.proofs.Stepping.{known-told, known-words, refused-told}
@@ -24,7 +24,7 @@ use Rattle.text.specs.Room.{Room, Put}
 use Rattle.text.proofs.Putting.{over-next, over-bytes}
 use Rattle.desk.specs.declared.Page.{Page}
 use Rattle.desk.specs.declared.Page.the-variants.{Refused, Text}
-use Rattle.desk.specs.Sheet.{textOf, shown, shownBytes, ownWords, told, paged, pagedBytes, Showed}
+use Rattle.desk.specs.Sheet.{textOf, shown, shownBytes, ownWords, toldSheet, paged, pagedBytes, Showed}
 use Rattle.desk.specs.Inside.{Known, Shows}
 use Rattle.desk.proofs.Fitting.{sheet-fits}
 
@@ -94,4 +94,4 @@ module _ (e : ℕ → ℤ) (tape out : List ℕ) where
     showed m r p h =
         let b = le-ltb (length out) 4096 wide in
         let i : r ≡ paged e tape (length out) = rw b (p ∙ rw (answer, its-words)) in
-        record { answer = i; tells = ap told i; left = rw b (h ∙ rw (answer, its-words)) }
+        record { answer = i; tells = ap toldSheet i; left = rw b (h ∙ rw (answer, its-words)) }

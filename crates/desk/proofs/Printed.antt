@@ -18,15 +18,15 @@ use Rattle.steps.specs.Course.{move, sineAlong}
 use Rattle.steps.specs.Distance.{seaLevel, combine, grid}
 use Rattle.steps.specs.Share.{share}
 use Rattle.records.specs.Bytes.{num, bytes, meant, written}
-use Rattle.records.specs.Record.{Rec, rec, table, fieldsOf, bodyOf, numbersOf, goodOf, bytesOf}
+use Rattle.records.specs.Record.{Rec, rec, table, kindFields, bodyOf, numbersOf, goodOf, bytesOf}
 use Rattle.tape.specs.Tape.{mayCome, roomOf, rowNext, projectNext, afterOf, takeOf, judge, stepOf, walk, readingOf, recordsFrom, tapeOf}
 use Rattle.tape.specs.Fields.{pick, placeOf, angleOf, distanceOf, isRow, scaleOf, picked}
 use Rattle.desk.specs.Line.{run, preliminary, adjusted}
-use Rattle.desk.specs.Traverse.{placed, offsetsTo, areaOf}
+use Rattle.desk.specs.Traverse.{withStations, offsetsTo, areaOf}
 use Rattle.whole.specs.Filled.{filled}
 use Rattle.desk.specs.Turns.{carried, balancedAt}
 use Rattle.desk.specs.Angles.{misclosureOf, balancedTraverse}
-use Rattle.desk.specs.Answer.{Told, checkedAngles, firstOf, firstFor, closesOn, second, secondWords, traversedBy, traversedWordsBy, traversed, traversedWords}
+use Rattle.desk.specs.Answer.{ToldTraverse, checkedAngles, firstOf, firstFor, closesOn, adjustedTraverse, adjustedWords, traversedBy, traversedWordsBy, traversed, traversedWords}
 
 -- two rows, the project, the start, four legs of a square, and the close on the same point, half a second off
 abbrev pub records : List Rec
@@ -43,11 +43,11 @@ records =
     ∷ []
 
 -- W=+0.5 N=-0.01 E=+0.02 P=178886, and AREA2 2000020.0000
-abbrev pub answer : Told
-answer = record { number = 0; place = 0; legs = 4; w = pos 5; north = negℤ (pos 1); east = pos 2; precision = 178886; area = pos 20000200000; loop = true }
+abbrev pub answer : ToldTraverse
+answer = record { number = 0; place = 0; legs = 4; w = pos 5; northClosure = negℤ (pos 1); eastClosure = pos 2; precision = 178886; area = pos 20000200000; loop = true }
 
 pub printed-told : traversed (tapeOf records) 130 ≡ answer
-unfolding nearest sumTo exactSine exactQuarter bySeries series weight unity straight pi factorial around turned folded entry between quarterBy sineBy cross nextStation doubledTo turn misclosure closesAngles balanced closes root precision move sineAlong seaLevel combine grid share num bytes meant written table fieldsOf bodyOf numbersOf goodOf bytesOf mayCome roomOf rowNext projectNext afterOf takeOf judge stepOf walk readingOf recordsFrom tapeOf pick placeOf angleOf distanceOf isRow scaleOf picked run preliminary adjusted placed offsetsTo areaOf carried misclosureOf balancedAt filled balancedTraverse checkedAngles firstOf firstFor closesOn second traversedBy
+unfolding nearest sumTo exactSine exactQuarter bySeries series weight unity straight pi factorial around turned folded entry between quarterBy sineBy cross nextStation doubledTo turn misclosure closesAngles balanced closes root precision move sineAlong seaLevel combine grid share num bytes meant written table kindFields bodyOf numbersOf goodOf bytesOf mayCome roomOf rowNext projectNext afterOf takeOf judge stepOf walk readingOf recordsFrom tapeOf pick placeOf angleOf distanceOf isRow scaleOf picked run preliminary adjusted withStations offsetsTo areaOf carried misclosureOf balancedAt filled balancedTraverse checkedAngles firstOf firstFor closesOn adjustedTraverse traversedBy
 printed-told = refl
 
 -- the five stations, and behind them the words as they were lent
@@ -55,5 +55,5 @@ abbrev pub stations : List ℤ
 stations = pos 5000000 ∷ pos 200000000 ∷ pos 5100000 ∷ pos 200000000 ∷ pos 5100001 ∷ pos 200100001 ∷ pos 5000000 ∷ pos 200100000 ∷ pos 5000000 ∷ pos 200000000 ∷ []
 
 pub printed-words : (z : ℤ) → traversedWords (tapeOf records) (replicate 130 z) ≡ stations ++ replicate 120 z
-unfolding nearest sumTo exactSine exactQuarter bySeries series weight unity straight pi factorial around turned folded entry between quarterBy sineBy turn misclosure closesAngles balanced closes move sineAlong seaLevel combine grid share num bytes meant written table fieldsOf bodyOf numbersOf goodOf bytesOf mayCome roomOf rowNext projectNext afterOf takeOf judge stepOf walk readingOf recordsFrom tapeOf pick placeOf angleOf distanceOf isRow scaleOf picked run preliminary adjusted placed carried misclosureOf balancedAt filled balancedTraverse checkedAngles firstOf firstFor closesOn secondWords traversedWordsBy
+unfolding nearest sumTo exactSine exactQuarter bySeries series weight unity straight pi factorial around turned folded entry between quarterBy sineBy turn misclosure closesAngles balanced closes move sineAlong seaLevel combine grid share num bytes meant written table kindFields bodyOf numbersOf goodOf bytesOf mayCome roomOf rowNext projectNext afterOf takeOf judge stepOf walk readingOf recordsFrom tapeOf pick placeOf angleOf distanceOf isRow scaleOf picked run preliminary adjusted withStations carried misclosureOf balancedAt filled balancedTraverse checkedAngles firstOf firstFor closesOn adjustedWords traversedWordsBy
 printed-words z = refl

@@ -9,12 +9,12 @@ use lib.IntN.{pos}
 use Rattle.tape.specs.Tape.{walk, readingOf, tapeOf}
 use Rattle.desk.specs.Answer.{firstOf, firstFor, traversedBy}
 use Rattle.minutes.specs.Entry.{entry}
-use Rattle.desk.specs.Answer.{Told as Traversed}
+use Rattle.desk.specs.Answer.{ToldTraverse}
 use Rattle.desk.proofs.Printed.{records, answer, stations, printed-told, printed-words}
-use Rattle.text.specs.Text.{ascii, digits, placesIn, decimal, pointed, sign, amount}
+use Rattle.text.specs.Text.{ascii, digits, digitCountIn, decimal, pointed, sign, amount}
 use Rattle.text.proofs.Digits.{decimal-short}
 use Rattle.desk.specs.Sheet.{closures, closeLine, stationLine, lineOf, stationLines, areaLine, textOf, printedOf, printed}
-use Rattle.desk.specs.Sheet.{stations as Sheet·stations}
+use Rattle.desk.specs.Sheet.{sheetWords}
 
 abbrev sheet : List ℕ
 sheet =
@@ -27,11 +27,11 @@ sheet =
     ++ ascii "AREA2 2000020.0000\n"
 
 -- of what is told of the printed tape, and of its words; no number in it has more than ten digits
-short : (n : ℕ) → n < 10 ^ 10 → decimal n ≡ digits (placesIn 9 n) n
+short : (n : ℕ) → n < 10 ^ 10 → decimal n ≡ digits (digitCountIn 9 n) n
 short n h = decimal-short 9 n h
 
 figures : printedOf answer (stations ++ replicate 120 (pos 0)) ≡ sheet
-unfolding digits placesIn pointed sign amount closures closeLine stationLine lineOf stationLines areaLine textOf printedOf
+unfolding digits digitCountIn pointed sign amount closures closeLine stationLine lineOf stationLines areaLine textOf printedOf
 figures =
     rw (
       short 0 (omega arith),
@@ -50,8 +50,8 @@ figures =
 pub printed-sheet : printed (tapeOf records) ≡ sheet
 unfolding printed
 printed-sheet =
-    ap (λ (t : Traversed). printedOf t (Sheet·stations entry (tapeOf records))) printed-told ∙ ap (printedOf answer) (printed-words (pos 0)) ∙ figures
+    ap (λ (t : ToldTraverse). printedOf t (sheetWords entry (tapeOf records))) printed-told ∙ ap (printedOf answer) (printed-words (pos 0)) ∙ figures
 
 pub printed-refusal : printed [] ≡ ascii "REFUSED 2\n"
-unfolding traversedBy firstFor firstOf readingOf walk digits placesIn decimal printedOf printed
+unfolding traversedBy firstFor firstOf readingOf walk digits digitCountIn decimal printedOf printed
 printed-refusal = refl

@@ -9,7 +9,7 @@ use lib.Dec.{eqb}
 use lib.ListN.{length, take, drop, length-append, length-take}
 use lib.IntN.{ℤ}
 use Rattle.minutes.specs.Entry.{entry}
-use Rattle.desk.specs.Answer.{Told as Traversed}
+use Rattle.desk.specs.Answer.{ToldTraverse}
 use Rattle.desk.proofs.Accepted.{number-most}
 use Rattle.text.specs.Text.{ascii, decimal}
 use Rattle.text.specs.Room.{Room, Put}
@@ -17,17 +17,17 @@ use Rattle.text.proofs.Lengths.{decimal-most}
 use Rattle.text.proofs.Putting.{over-next, over-bytes}
 use Rattle.desk.specs.declared.Page.{Page}
 use Rattle.desk.specs.declared.Page.the-variants.{Refused, Text}
-use Rattle.desk.specs.Sheet.{textOf, over, shown, shownBytes, answered, stations, told, paged, pagedBytes, Showed, printedOf, printed, printedIn}
+use Rattle.desk.specs.Sheet.{textOf, over, shown, shownBytes, answered, sheetWords, toldSheet, paged, pagedBytes, Showed, printedOf, printed, printedIn}
 
 refusal-most : (tape : List ℕ) → length (ascii "REFUSED " ++ decimal (answered entry tape .number) ++ ascii "\n") ≤ 10
 refusal-most tape = simp length-append (omega (arith, decimal-most 0 (answered entry tape .number) (omega (arith, number-most entry tape 130))))
 
 module _ (tape out : List ℕ) where
-  abbrev t : Traversed
+  abbrev t : ToldTraverse
   t = answered entry tape
 
   abbrev words : List ℤ
-  words = stations entry tape
+  words = sheetWords entry tape
 
   -- ---- no room
   module _ (few : length out < 4096) where
@@ -54,7 +54,7 @@ module _ (tape out : List ℕ) where
         where
           go : (b : Bool) → eqb (t .number) 0 ≡ b → Text n ≡ cond b (Text (length (textOf t words))) (Refused (t .number) (t .place))
               → (eqb (t .number) 0 ≡ true) × (n ≡ length (textOf t words))
-          go true f h = (f, ap (λ (p : Page). told p .length) h)
+          go true f h = (f, ap (λ (p : Page). toldSheet p .used) h)
           go false f h = let z : _≡_ {A = ℕ} 0 1 = cc in absurd (omega arith)
 
       pub text-length : n ≡ length (printedIn tape (length out))
@@ -73,7 +73,7 @@ module _ (tape out : List ℕ) where
         where
           go : (b : Bool) → eqb (t .number) 0 ≡ b → Refused n p ≡ cond b (Text (length (textOf t words))) (Refused (t .number) (t .place))
               → (eqb (t .number) 0 ≡ false) × (n ≡ t .number)
-          go false f h = (f, ap (λ (q : Page). told q .number) h)
+          go false f h = (f, ap (λ (q : Page). toldSheet q .number) h)
           go true f h = let z : _≡_ {A = ℕ} 0 1 = cc in absurd (omega arith)
 
       untouched : m ≡ out

@@ -14,16 +14,16 @@ use Rattle.desk.specs.declared.Answer.the-variants as answer
 use Rattle.desk.specs.declared.Page.{Page}
 use Rattle.desk.specs.declared.Page.the-variants as page
 use Rattle.desk.specs.Angles.{Balanced}
-use Rattle.desk.specs.Answer.{refused, told, First, stopped, good, firstFor, closesOn, second}
-use Rattle.desk.specs.Answer.{secondWords, afterFirst, wordsAfterFirst}
+use Rattle.desk.specs.Answer.{refusedTraverse, toldTraverse, First, stopped, good, firstFor, closesOn, adjustedTraverse}
+use Rattle.desk.specs.Answer.{adjustedWords, afterFirst, wordsAfterFirst}
 use Rattle.desk.specs.Answer.{traversedBy, traversedWordsBy}
 use Rattle.desk.specs.Sheet.{shown, shownBytes, sheetBytes, answered, paged, pagedBytes}
-use Rattle.desk.specs.Sheet.{Showed, told as toldPage}
+use Rattle.desk.specs.Sheet.{Showed, toldSheet}
 
 -- ---- the traverse
 module _ (e : ℕ → ℤ) (words : List ℤ) where
-  second-kept : (b : Balanced) → (second e b .number ≡ 0 → ⊥) → secondWords e b words ≡ words
-  unfolding second secondWords
+  second-kept : (b : Balanced) → (adjustedTraverse e b .number ≡ 0 → ⊥) → adjustedWords e b words ≡ words
+  unfolding adjustedTraverse adjustedWords
   second-kept b some =
       by-test (λ (l : List ℤ). l ≡ words) (closesOn e b)
       (λ c. absurd (some (rw c)))
@@ -35,21 +35,21 @@ module _ (e : ℕ → ℤ) (words : List ℤ) where
 
 -- "A refusal .. writes nothing into lent memory"
 pub refused-words : (e : ℕ → ℤ) (tape : List ℕ) (words left : List ℤ) (x : Answer)
-    → told x ≡ traversedBy e tape (length words) → left ≡ traversedWordsBy e tape words
-    → (told x .number ≡ 0 → ⊥) → left ≡ words
+    → toldTraverse x ≡ traversedBy e tape (length words) → left ≡ traversedWordsBy e tape words
+    → (toldTraverse x .number ≡ 0 → ⊥) → left ≡ words
 unfolding traversedBy traversedWordsBy
 refused-words e tape words left x h g some =
     rw g (first-kept e words (firstFor tape (length words)) (rw h at some))
 
 -- "A refusal returns its number and its place, zeros otherwise", whatever was asked
-pub refused-zeros : (x : Answer) → (told x .number ≡ 0 → ⊥)
-    → told x ≡ refused (told x .number) (told x .place)
+pub refused-zeros : (x : Answer) → (toldTraverse x .number ≡ 0 → ⊥)
+    → toldTraverse x ≡ refusedTraverse (toldTraverse x .number) (toldTraverse x .place)
 refused-zeros (answer.Refused n p) some = refl
 refused-zeros (answer.Adjusted f) some = absurd (some refl)
 
 -- ---- the sheet: "lent memory is untouched", and the length told is zero
 pub refused-sheet : (e : ℕ → ℤ) (tape out left : List ℕ) (r : Page) → Showed e tape out left r
-    → (toldPage r .number ≡ 0 → ⊥) → left ≡ out
+    → (toldSheet r .number ≡ 0 → ⊥) → left ≡ out
 unfolding paged pagedBytes shown shownBytes
 refused-sheet e tape out left r h some =
     let Kept : List ℕ → Type 0 = λ l. l ≡ out in
@@ -60,6 +60,6 @@ refused-sheet e tape out left r h some =
     (λ none. absurd (some (rw (h .answer, room, none))))
     (λ other. refl)))
 
-pub refused-length : (r : Page) → (toldPage r .number ≡ 0 → ⊥) → toldPage r .length ≡ 0
+pub refused-length : (r : Page) → (toldSheet r .number ≡ 0 → ⊥) → toldSheet r .used ≡ 0
 refused-length (page.Refused n p) some = refl
 refused-length (page.Text n) some = absurd (some refl)

@@ -16,7 +16,7 @@ use Rattle.steps.proofs.Turning.{turn-is, misclosure-is}
 use Rattle.tape.specs.Fields.{Fields, fieldsOf}
 use Rattle.desk.specs.declared.Answer.{Answer}
 use Rattle.desk.specs.Angles.{turnsOf, misclosureOf, Balanced, balancedTraverse}
-use Rattle.desk.specs.Answer.{Told, told, northClosure, eastClosure, distanceRun, second}
+use Rattle.desk.specs.Answer.{ToldTraverse, toldTraverse, northClosure, eastClosure, distanceRun, adjustedTraverse}
 use Rattle.desk.specs.Answer.{traversedBy}
 use Rattle.desk.specs.Inside.{Sound}
 use Rattle.desk.specs.Traverse.{azimuthOf}
@@ -27,7 +27,7 @@ use Rattle.desk.proofs.Balancing.{leg-azimuth}
 use Rattle.desk.proofs.Settling.{run-small}
 
 module _ (e : ℕ → ℤ) (tape : List ℕ) (room : ℕ) (x : Answer)
-    (tells : told x ≡ traversedBy e tape room) (accepts : told x .number ≡ 0) where
+    (tells : toldTraverse x ≡ traversedBy e tape room) (accepts : toldTraverse x .number ≡ 0) where
   abbrev f : Fields
   f = fieldsOf tape
 
@@ -35,20 +35,20 @@ module _ (e : ℕ → ℤ) (tape : List ℕ) (room : ℕ) (x : Answer)
   b = balancedTape tape
 
   a : Accepted e tape room
-  a = accepted e tape room (ap (λ (t : Told). t .number) (sym tells) ∙ accepts)
+  a = accepted e tape room (ap (λ (t : ToldTraverse). t .number) (sym tells) ∙ accepts)
 
   sound : Sound b
   sound = accepted-sound e tape room a
 
-  is-second : told x ≡ second e b
+  is-second : toldTraverse x ≡ adjustedTraverse e b
   is-second = tells ∙ accepted-told e tape room a
 
-  legs-are : told x .legs ≡ f .line .legs
-  unfolding second balancedTraverse
+  legs-are : toldTraverse x .legs ≡ f .line .legs
+  unfolding adjustedTraverse balancedTraverse
   legs-are = rw (is-second, a .closes)
 
-  w-is : told x .w ≡ misclosureOf f
-  unfolding second balancedTraverse
+  w-is : toldTraverse x .w ≡ misclosureOf f
+  unfolding adjustedTraverse balancedTraverse
   w-is = rw (is-second, a .closes)
 
   few : f .line .legs ≤ mostLegs
@@ -57,15 +57,15 @@ module _ (e : ℕ → ℤ) (tape : List ℕ) (room : ℕ) (x : Answer)
 
   -- "Misclosure W = carried less given", of the closing azimuth
   pub misclosure-rule :
-      Misclosure (carried (turnsOf f) (told x .legs)) (f .closing .given) (told x .w)
+      Misclosure (carried (turnsOf f) (toldTraverse x .legs)) (f .closing .given) (toldTraverse x .w)
   unfolding misclosureOf
   misclosure-rule =
       rw (legs-are, w-is) (misclosure-is (carried (turnsOf f) (f .line .legs)) (f .closing .given))
 
   -- "the balanced azimuth of leg j is the carried one less that share, modulo the circle": leg k,
   -- counted from 0, is at the (k+1)-th of n+1 angles
-  pub azimuth-at : (k : ℕ) → k < told x .legs
-      → Modulo (pos (carried (turnsOf f) k) -ℤ share (told x .w) (k + 1) (told x .legs + 1))
+  pub azimuth-at : (k : ℕ) → k < toldTraverse x .legs
+      → Modulo (pos (carried (turnsOf f) k) -ℤ share (toldTraverse x .w) (k + 1) (toldTraverse x .legs + 1))
       (azimuthOf b k)
   unfolding balancedAt balanced
   azimuth-at k h =
@@ -75,8 +75,8 @@ module _ (e : ℕ → ℤ) (tape : List ℕ) (room : ℕ) (x : Answer)
   -- "the largest whole P with P squared x 100 x (C_N squared + C_E squared) at most S squared", of
   -- the answer's own closures and of the whole grid distance run
   pub precision-rule :
-      Precision (told x .north) (told x .east) (distanceRun b) (told x .precision)
-  unfolding second
+      Precision (toldTraverse x .northClosure) (toldTraverse x .eastClosure) (distanceRun b) (toldTraverse x .precision)
+  unfolding adjustedTraverse
   precision-rule =
       let small = run-small b sound in
       rw (is-second, a .closes)

@@ -16,7 +16,7 @@ use Rattle.answer.specs.declared.Count.{Count}
 use Rattle.answer.specs.Told.{toldCount}
 use Rattle.answer.proofs.Telling.{value-given, both, inside-yes}
 use Rattle.minutes.specs.Quadrant.{circle}
-use Rattle.steps.specs.Course.{toldOf, Axis, north, east, sineAlong, move, course, courseStep}
+use Rattle.steps.specs.Course.{toldMove, Axis, north, east, sineAlong, move, course, courseStep}
 use Rattle.sines.specs.Sine.{entryIn}
 use Rattle.steps.specs.declared.course.Moves.{Moves}
 use Rattle.sines.proofs.Own.{lent-entries, Entries}
@@ -24,8 +24,8 @@ use Rattle.steps.specs.Distance.{grid, gridStep}
 use Rattle.steps.proofs.Laws.{product-most}
 use Rattle.steps.proofs.Moving.{move-given, along-most}
 use Rattle.desk.specs.Line.{run, preliminary}
-use Rattle.desk.specs.Traverse.{along, longOf, azimuthOf, line, at}
-use Rattle.desk.specs.Inside.{withLegs, LegSound, Sound, Small, Slight, Begun, Added, Advanced, Stands, wordAt, Ran}
+use Rattle.desk.specs.Traverse.{along, longOf, azimuthOf, line, wordIndex}
+use Rattle.desk.specs.Inside.{withLegs, LegSound, Sound, RoomForLeg, Slight, Begun, Added, Advanced, Stands, wordAt, Ran}
 use Rattle.desk.specs.Angles.{Balanced}
 use Rattle.desk.specs.declared.Frame.{Frame}
 use Rattle.desk.specs.declared.Sums.{Sums}
@@ -55,18 +55,18 @@ module _ (e : ℕ → ℤ) (entries : Entries e) where
 
 -- so a move that a lent table gives is slight
 pub course-small : (table : List ℕ) (axis : Axis) (distance azimuth : ℕ) (m : Moves) → distance ≤ 20040020 → azimuth < circle
-    → toldOf axis m ≡ courseStep (entryIn table) axis distance azimuth → Slight (toldOf axis m .value)
+    → toldMove axis m ≡ courseStep (entryIn table) axis distance azimuth → Slight (toldMove axis m .value)
 course-small table axis distance azimuth m near turned g =
     rw (move-given (entryIn table) axis distance azimuth m (omega arith) turned g) (course-most (entryIn table) (lent-entries table) axis distance azimuth (omega arith) turned)
 
 pub slight-fits : (v z : ℤ) → v ≡ z → Slight z → natAbs v < 2 ^ 62
 slight-fits v z e h = rw e (omega arith)
 
-pub advanced : (table : List ℕ) (s r : Sums) (m : Moves) (long factor distance azimuth : ℕ) → Added s long (toldOf north m .value) (toldOf east m .value) r → long ≡ grid distance factor
-    → long ≤ 20040020 → azimuth < circle → toldOf north m ≡ courseStep (entryIn table) north long azimuth → toldOf east m ≡ courseStep (entryIn table) east long azimuth
+pub advanced : (table : List ℕ) (s r : Sums) (m : Moves) (long factor distance azimuth : ℕ) → Added s long (toldMove north m .value) (toldMove east m .value) r → long ≡ grid distance factor
+    → long ≤ 20040020 → azimuth < circle → toldMove north m ≡ courseStep (entryIn table) north long azimuth → toldMove east m ≡ courseStep (entryIn table) east long azimuth
     → Advanced (entryIn table) s factor distance azimuth r
 advanced table s r m long factor distance azimuth a e near turned n w =
-    rw (← e) (rw (move-given (entryIn table) north long azimuth m (omega arith) turned n, move-given (entryIn table) east long azimuth m (omega arith) turned w) at a)
+    rw (← e) (rw (move-given (entryIn table) north long azimuth m (omega arith) turned n, move-given (entryIn table) east long azimuth m (omega arith) turned w) wordIndex a)
 
 -- ---- a balanced traverse whose fields are in range
 pub leg-sound : (b : Frame) (azimuths distances : List ℕ) (k : ℕ) → Sound (withLegs b azimuths distances) → k < b .legs → LegSound (b .factor) (getD distances k 0) (getD azimuths k 0)
@@ -105,7 +105,7 @@ module _ (e : ℕ → ℤ) (entries : Entries e) (b : Balanced) (sound : Sound b
   place-small axis k z g h =
       rw g (omega (arith, near-most (preliminary (line e axis b) k) (along axis (b .from)) (2010000 * k) (drift axis k h), sound .from axis, sound .few))
 
-  pub stands-small : (k : ℕ) (s : Sums) → k ≤ b .legs → Stands e b k s → Small s
+  pub stands-small : (k : ℕ) (s : Sums) → k ≤ b .legs → Stands e b k s → RoomForLeg s
   stands-small k s h w =
       record {
         north = place-small north k _ (w .north) h;
@@ -127,12 +127,12 @@ module _ (e : ℕ → ℤ) (b : Balanced) where
   -- ---- what is kept of every station up to the one reached
   module _ (k : ℕ) (x y : ℤ) (r : ℕ) (l m : List ℤ) (p q : List ℕ) (room : 2 * k + 1 < length l) (room-run : k < length p) (f : m ≡ set (set l (2 * k) x) (2 * k + 1) y)
       (g : q ≡ set p k r) (is-north : x ≡ preliminary (line e north b) k) (is-east : y ≡ preliminary (line e east b) k) (is-run : r ≡ run (longOf b) k) where
-    own-spot : (axis : Axis) → wordAt m (at axis k) ≡ preliminary (line e axis b) k
+    own-spot : (axis : Axis) → wordAt m (wordIndex axis k) ≡ preliminary (line e axis b) k
     own-spot north = rw f (own l k x y north room ∙ is-north)
     own-spot east = rw f (own l k x y east room ∙ is-east)
 
     -- with those of the stations before it
-    kept : ((axis : Axis) (j : ℕ) → j < k → wordAt l (at axis j) ≡ preliminary (line e axis b) j) → ((j : ℕ) → j < k → getD p j 0 ≡ run (longOf b) j)
+    kept : ((axis : Axis) (j : ℕ) → j < k → wordAt l (wordIndex axis j) ≡ preliminary (line e axis b) j) → ((j : ℕ) → j < k → getD p j 0 ≡ run (longOf b) j)
         → Ran e b k m q
     kept spot long =
         record {
@@ -140,7 +140,7 @@ module _ (e : ℕ → ℤ) (b : Balanced) where
               λ axis j h.
               elim (ℕ-discrete j k) [
                 | yes i ↦ rw i (own-spot axis)
-                | no i ↦ rw f (apart l k x y (at axis j) (before k j i axis) (behind k j i axis) ∙ spot axis j (omega arith))
+                | no i ↦ rw f (apart l k x y (wordIndex axis j) (before k j i axis) (behind k j i axis) ∙ spot axis j (omega arith))
               ];
           run =
               λ j h.

@@ -15,20 +15,21 @@ use Rattle.whole.proofs.Ring.{ring, exps}
 use Rattle.answer.specs.declared.Amount.{Amount}
 use Rattle.answer.specs.declared.Count.{Count}
 use Rattle.answer.specs.declared.Verdict.{Verdict}
-use Rattle.answer.specs.Told.{toldCount, toldVerdict, passes, told as amount·told}
+use Rattle.answer.specs.Told.{toldCount, toldVerdict, passes, toldAmount}
 use Rattle.answer.proofs.Telling.{value-given, verdict-given, both, inside-yes, flag-yes}
 use Rattle.steps.specs.Closure.{closes, closureTest, precision, precisionStep}
 use Rattle.steps.specs.Course.{Axis, north, east}
 use Rattle.steps.specs.Distance.{grid}
 use Rattle.steps.specs.Share.{share, shareStep}
 use Rattle.desk.specs.Line.{run, preliminary, closure, adjusted}
-use Rattle.desk.specs.Traverse.{along, longOf, line, placed}
-use Rattle.desk.specs.Answer.{refused, northClosure, eastClosure, distanceRun, closesOn, second, secondWords}
-use Rattle.desk.specs.Inside.{withLegs, Sound, Small, Stands, wordAt, Left, Closed, Ended, Near, Shared, putTo, Placed}
+use Rattle.desk.specs.Traverse.{along, longOf, line, withStations}
+use Rattle.desk.specs.Answer.{refusedTraverse, northClosure, eastClosure, distanceRun, closesOn, adjustedTraverse, adjustedWords}
+use Rattle.desk.specs.Inside.{withLegs, Sound, RoomForLeg, Stands, wordAt, Left, Closed, Ended, Near, Shared, putTo, AreaRanged}
 use Rattle.tape.specs.declared.Point.{Point}
 use Rattle.desk.specs.Angles.{Balanced}
 use Rattle.desk.specs.declared.Frame.{Frame}
 use Rattle.desk.specs.declared.Sums.{Sums}
+use Rattle.desk.specs.declared.Closure.{Closure}
 use Rattle.steps.proofs.Sharing.{share-most}
 use Rattle.steps.proofs.Laws.{product-most, square-most}
 use Rattle.desk.proofs.Compass.{run-up}
@@ -66,10 +67,10 @@ pub precision-value : (r : Count) (p : ℕ) (n e : ℤ) (s : ℕ) → toldCount 
 precision-value r p n e s t f hn he low high =
     ap natAbs (f ∙ value-given (toldCount r) _ _ t (both _ _ (both _ _ (le-leb (natAbs n) 26000 hn) (le-leb (natAbs e) 26000 he)) (inside-yes 1 1300000000 s low high)))
 
-module _ (r : Amount) (v closure : ℤ) (part all : ℕ) (t : amount·told r ≡ shareStep closure part all) (f : v ≡ amount·told r .value)
+module _ (r : Amount) (v closure : ℤ) (part all : ℕ) (t : toldAmount r ≡ shareStep closure part all) (f : v ≡ toldAmount r .value)
     (small : natAbs closure ≤ 26000) (h : part ≤ all) (low : 1 ≤ all) (high : all ≤ 1300000000) where
   share-is : v ≡ share closure part all
-  share-is = f ∙ value-given (amount·told r) _ _ t (both _ _ (both _ _ (le-leb (natAbs closure) 26000 small) (inside-yes 1 1300000000 all low high)) (le-leb part all h))
+  share-is = f ∙ value-given (toldAmount r) _ _ t (both _ _ (both _ _ (le-leb (natAbs closure) 26000 small) (inside-yes 1 1300000000 all low high)) (le-leb part all h))
 
   pub share-fits : natAbs v < 2 ^ 62
   share-fits = rw share-is (omega (arith, share-most closure all low part h))
@@ -82,8 +83,8 @@ grid-least : (distance factor : ℕ) → 1000 ≤ distance → 9980000 ≤ facto
 unfolding grid
 grid-least distance factor h i = omega (arith, product-most 1000 9980000 distance factor h i)
 
-pub placed-length : (e : ℕ → ℤ) (b : Balanced) (k : ℕ) (l : List ℤ) → length (placed e b k l) ≡ length l
-unfolding placed
+pub placed-length : (e : ℕ → ℤ) (b : Balanced) (k : ℕ) (l : List ℤ) → length (withStations e b k l) ≡ length l
+unfolding withStations
 placed-length e b zero l = refl
 placed-length e b (suc k) l = simp length-set (placed-length e b k l)
 
@@ -103,12 +104,12 @@ module _ (b : Balanced) (sound : Sound b) where
   closes-near e east t = east-near (closesOn e b) (northClosure e b) (eastClosure e b) (distanceRun b) refl t run-small
 
 -- what is left, from the code's two differences
-pub left-is : (to : Point) (end c : Sums) (q r : ℤ) → q ≡ pos (to .north) → r ≡ pos (to .east) → c .north .v ≡ end .north .v -ℤ q → c .east .v ≡ end .east .v -ℤ r
-    → c .run ≡ end .run → Left to end c
-left-is to end c q r f g n e t = record { north = n ∙ rw f; east = e ∙ rw g; run = t }
+pub left-is : (to : Point) (end : Sums) (c : Closure) (q r : ℤ) → q ≡ pos (to .north) → r ≡ pos (to .east) → c .north .v ≡ end .north .v -ℤ q → c .east .v ≡ end .east .v -ℤ r
+    → c .distance ≡ end .run → Left to end c
+left-is to end c q r f g n e t = record { north = n ∙ rw f; east = e ∙ rw g; distance = t }
 
 -- ---- the words, a station at a time
-module _ (n : ℕ) (spots : List ℤ) (runs : List ℕ) (c : Sums) where
+module _ (n : ℕ) (spots : List ℤ) (runs : List ℕ) (c : Closure) where
   module _ (k : ℕ) (s : Shared n spots runs c) (h : k ≤ n) where
     pub spot-room : 2 * k + 1 < length spots
     spot-room = omega (arith, s .few, s .room)
@@ -122,7 +123,7 @@ module _ (n : ℕ) (spots : List ℤ) (runs : List ℕ) (c : Sums) where
     pub east-fits : (z : ℤ) → z ≡ wordAt spots (2 * k + 1) → natAbs z < 2 ^ 40
     east-fits z e = rw e (s .east k h)
 
-    pub part-fits : getD runs k 0 ≤ c .run
+    pub part-fits : getD runs k 0 ≤ c .distance
     part-fits = s .part k h
 
   pub put-length : (k : ℕ) (l : List ℤ) → length (putTo spots runs c k l) ≡ length l
@@ -134,7 +135,7 @@ module _ (n : ℕ) (spots : List ℤ) (runs : List ℕ) (c : Sums) where
   station-room k l m s g h i = rw g (omega (arith, put-length k l, s .few))
 
   pub put-next : (k : ℕ) (l m r : List ℤ) (x y : ℤ) → m ≡ putTo spots runs c k l → x ≡ wordAt spots (2 * k) → y ≡ wordAt spots (2 * k + 1)
-      → r ≡ set (set m (2 * k) (x -ℤ share (c .north .v) (getD runs k 0) (c .run))) (2 * k + 1) (y -ℤ share (c .east .v) (getD runs k 0) (c .run))
+      → r ≡ set (set m (2 * k) (x -ℤ share (c .north .v) (getD runs k 0) (c .distance))) (2 * k + 1) (y -ℤ share (c .east .v) (getD runs k 0) (c .distance))
       → r ≡ putTo spots runs c (k + 1) l
   unfolding putTo
   put-next k l m r x y g h i f = f ∙ rw (g, h, i, add-one k)
@@ -142,8 +143,8 @@ module _ (n : ℕ) (spots : List ℤ) (runs : List ℕ) (c : Sums) where
   pub put-last : (k : ℕ) (l m : List ℤ) → k ≤ n + 1 → n < k → m ≡ putTo spots runs c k l → m ≡ putTo spots runs c (n + 1) l
   put-last k l m h i g = let j : k ≡ n + 1 = omega arith in subst (λ (q : ℕ). m ≡ putTo spots runs c q l) j g
 
-pub placed-at : (n : ℕ) (l m : List ℤ) → m ≡ l → Placed n l → Placed n m
-placed-at n l m e p = rw e p
+pub ranged-at : (n : ℕ) (l m : List ℤ) → m ≡ l → AreaRanged n l → AreaRanged n m
+ranged-at n l m e p = rw e p
 
 -- ---- the end of the run
 module _ (e : ℕ → ℤ) (entries : Entries e) (b : Balanced) (sound : Sound b) where
@@ -157,14 +158,14 @@ module _ (e : ℕ → ℤ) (entries : Entries e) (b : Balanced) (sound : Sound b
       let apart : natAbs (pos f -ℤ pos t) ≤ 1000000000 = abs-under (pos f -ℤ pos t) (search ints) (omega (arith, sound .from axis), omega (arith, sound .to axis)) in
       rw q (omega (arith, triangle (p -ℤ pos f) (pos f -ℤ pos t), drift e entries b sound axis (b .legs) (omega arith), apart, sound .few))
 
-  pub end-small : (end : Sums) → Stands e b (b .legs) end → Small end
+  pub end-small : (end : Sums) → Stands e b (b .legs) end → RoomForLeg end
   end-small end stands = stands-small e entries b sound (b .legs) end (omega arith) stands
 
-  pub closed-at : (end c : Sums) → Stands e b (b .legs) end → Left (b .to) end c → Closed e b c
-  closed-at end c stands left = record { north = rw (left .north, stands .north); east = rw (left .east, stands .east); run = left .run ∙ stands .run }
+  pub closed-at : (end : Sums) (c : Closure) → Stands e b (b .legs) end → Left (b .to) end c → Closed e b c
+  closed-at end c stands left = record { north = rw (left .north, stands .north); east = rw (left .east, stands .east); distance = left .distance ∙ stands .run }
 
--- ---- behind it
-module _ (e : ℕ → ℤ) (entries : Entries e) (frame : Frame) (azimuths distances : List ℕ) (spots : List ℤ) (runs : List ℕ) (c : Sums)
+-- ---- after it
+module _ (e : ℕ → ℤ) (entries : Entries e) (frame : Frame) (azimuths distances : List ℕ) (spots : List ℤ) (runs : List ℕ) (c : Closure)
     (h : Ended e (withLegs frame azimuths distances) spots runs c) where
   abbrev b : Balanced
   b = withLegs frame azimuths distances
@@ -176,11 +177,11 @@ module _ (e : ℕ → ℤ) (entries : Entries e) (frame : Frame) (azimuths dista
   pub east-small : natAbs (c .east .v) ≤ 1200000000
   east-small = rw (h .closed .east) (closure-small e entries b (h .sound) east)
 
-  pub run-far : 1 ≤ c .run
-  run-far = rw (h .closed .run) (far-run b (h .sound))
+  pub run-far : 1 ≤ c .distance
+  run-far = rw (h .closed .distance) (far-run b (h .sound))
 
-  pub run-most-left : c .run ≤ 1300000000
-  run-most-left = rw (h .closed .run) (run-small b (h .sound))
+  pub run-most-left : c .distance ≤ 1300000000
+  run-most-left = rw (h .closed .distance) (run-small b (h .sound))
 
   -- every station's part of the distance run is a part of the whole
   pub shared : Shared (frame .legs) spots runs c
@@ -191,48 +192,48 @@ module _ (e : ℕ → ℤ) (entries : Entries e) (frame : Frame) (azimuths dista
         room-run = h .room-run;
         north = λ k i. place-small e entries b (h .sound) north k (wordAt spots (2 * k)) (h .ran .spot north k i) i;
         east = λ k i. place-small e entries b (h .sound) east k (wordAt spots (2 * k + 1)) (h .ran .spot east k i) i;
-        part = λ k i. rw (h .ran .run k i, h .closed .run) (run-up (longOf b) k (b .legs) i);
+        part = λ k i. rw (h .ran .run k i, h .closed .distance) (run-up (longOf b) k (b .legs) i);
       }
 
   -- and what is put is the adjusted stations
   adjusted-is : (axis : Axis) (k : ℕ) (p q : ℤ) (x : ℕ) → p ≡ preliminary (line e axis b) k → q ≡ closure (line e axis b) → x ≡ run (longOf b) k
-      → p -ℤ share q x (c .run) ≡ adjusted (line e axis b) k
+      → p -ℤ share q x (c .distance) ≡ adjusted (line e axis b) k
   unfolding adjusted
-  adjusted-is axis k p q x f g i = rw (f, g, i, h .closed .run)
+  adjusted-is axis k p q x f g i = rw (f, g, i, h .closed .distance)
 
-  put-is : (k : ℕ) (l : List ℤ) → k ≤ b .legs + 1 → putTo spots runs c k l ≡ placed e b k l
-  unfolding putTo placed
+  put-is : (k : ℕ) (l : List ℤ) → k ≤ b .legs + 1 → putTo spots runs c k l ≡ withStations e b k l
+  unfolding putTo withStations
   put-is zero l i = refl
   put-is (suc k) l i =
       let x = h .ran .run k (omega arith) in
       rw (put-is k l (omega arith), adjusted-is north k _ _ _ (h .ran .spot north k (omega arith)) (h .closed .north) x, adjusted-is east k _ _ _ (h .ran .spot east k (omega arith)) (h .closed .east) x)
 
-  pub put-all-is : (l m : List ℤ) → m ≡ putTo spots runs c (frame .legs + 1) l → m ≡ placed e b (b .legs + 1) l
+  pub put-all-is : (l m : List ℤ) → m ≡ putTo spots runs c (frame .legs + 1) l → m ≡ withStations e b (b .legs + 1) l
   put-all-is l m g = g ∙ put-is (b .legs + 1) l (omega arith)
 
   -- ---- the answer, by the test
-  module _ (x : Bool) (t : x ≡ closes (c .north .v) (c .east .v) (c .run)) where
+  module _ (x : Bool) (t : x ≡ closes (c .north .v) (c .east .v) (c .distance)) where
     pub test-is : x ≡ closesOn e b
     unfolding closesOn
-    test-is = rw (← h .closed .north, ← h .closed .east, ← h .closed .run) t
+    test-is = rw (← h .closed .north, ← h .closed .east, ← h .closed .distance) t
 
     pub near : x ≡ true → Near c
     near y =
         record {
-          north = north-near x (c .north .v) (c .east .v) (c .run) t y run-most-left;
-          east = east-near x (c .north .v) (c .east .v) (c .run) t y run-most-left;
+          north = north-near x (c .north .v) (c .east .v) (c .distance) t y run-most-left;
+          east = east-near x (c .north .v) (c .east .v) (c .distance) t y run-most-left;
           far = run-far;
           most = run-most-left;
         }
 
-    pub second-far : x ≡ false → refused 9 (frame .place) ≡ second e b
-    unfolding second
-    second-far y = rw (← test-is, y)
+    pub closure-far : x ≡ false → refusedTraverse 9 (frame .place) ≡ adjustedTraverse e b
+    unfolding adjustedTraverse
+    closure-far y = rw (← test-is, y)
 
-    pub words-far : (l : List ℤ) → x ≡ false → l ≡ secondWords e b l
-    unfolding secondWords
+    pub words-far : (l : List ℤ) → x ≡ false → l ≡ adjustedWords e b l
+    unfolding adjustedWords
     words-far l y = rw (← test-is, y)
 
-    pub words-near : (l m : List ℤ) → x ≡ true → m ≡ putTo spots runs c (frame .legs + 1) l → m ≡ secondWords e b l
-    unfolding secondWords
+    pub words-near : (l m : List ℤ) → x ≡ true → m ≡ putTo spots runs c (frame .legs + 1) l → m ≡ adjustedWords e b l
+    unfolding adjustedWords
     words-near l m y f = rw (← test-is, y) (put-all-is l m f)

@@ -15,10 +15,10 @@ use lib.Seq.{take-append-seam}
 use borrow.Author.Tests.{eqb-true, eqb-false}
 use Rattle.whole.proofs.Branch.{by-test}
 use Rattle.desk.specs.declared.Page.{Page}
-use Rattle.desk.specs.Answer.{Told as Traversed}
+use Rattle.desk.specs.Answer.{ToldTraverse}
 use Rattle.desk.specs.Sheet.{closeLine, lineOf, stationLines, areaLine, textOf, over}
-use Rattle.desk.specs.Sheet.{shown, shownBytes, sheetBytes, answered, stations}
-use Rattle.desk.specs.Sheet.{paged, pagedBytes, Told, told, Showed}
+use Rattle.desk.specs.Sheet.{shown, shownBytes, sheetBytes, answered, sheetWords}
+use Rattle.desk.specs.Sheet.{paged, pagedBytes, ToldSheet, toldSheet, Showed}
 
 -- ---- the line of station k among those of the first n
 line-among : (words : List ℤ) (k n : ℕ) → k < n
@@ -35,11 +35,11 @@ line-among words k (suc n) h =
 
 -- what the text of a sheet has before the line of station k: the first line, and the lines of the
 -- stations before it
-abbrev pub linesBefore : Traversed → List ℤ → ℕ → List ℕ
+abbrev pub linesBefore : ToldTraverse → List ℤ → ℕ → List ℕ
 linesBefore t words k =
-    closeLine (t .w) (t .north) (t .east) (t .precision) ++ stationLines words k
+    closeLine (t .w) (t .northClosure) (t .eastClosure) (t .precision) ++ stationLines words k
 
-pub line-in-text : (t : Traversed) (words : List ℤ) (k : ℕ) → k ≤ t .legs
+pub line-in-text : (t : ToldTraverse) (words : List ℤ) (k : ℕ) → k ≤ t .legs
     → (after : List ℕ) × (textOf t words ≡ linesBefore t words k ++ lineOf words k ++ after)
 unfolding textOf
 line-in-text t words k h =
@@ -48,31 +48,31 @@ line-in-text t words k h =
 
 -- ---- what the sheet step leaves where its number is 0
 module _ (e : ℕ → ℤ) (tape out left : List ℕ) (r : Page) (s : Showed e tape out left r)
-    (accepts : told r .number ≡ 0) where
+    (accepts : toldSheet r .number ≡ 0) where
   -- the two tests that the answer has passed
   passed : (ltb (length out) sheetBytes ≡ false) × (eqb (answered e tape .number) 0 ≡ true)
   unfolding paged shown
   passed =
       let few = ltb (length out) sheetBytes in
       let none = eqb (answered e tape .number) 0 in
-      let P : Page → Type 0 = λ p. told p .number ≡ 0 → (few ≡ false) × (none ≡ true) in
+      let P : Page → Type 0 = λ p. toldSheet p .number ≡ 0 → (few ≡ false) × (none ≡ true) in
       by-test P few (λ t z. absurd (omega arith))
       (λ wide. by-test P none (λ t z. (wide, t))
       (λ t z. absurd (eqb-false (answered e tape .number) 0 t z)))
-      (ap (λ (t : Told). t .number) (sym (s .tells)) ∙ accepts)
+      (ap (λ (t : ToldSheet). t .number) (sym (s .tells)) ∙ accepts)
 
   -- the traverse of the sheet is accepted, and its text stands from the first byte on
   pub showed-accepts : answered e tape .number ≡ 0
   showed-accepts = eqb-true (answered e tape .number) 0 (passed .1)
 
-  pub showed-text : left ≡ over (textOf (answered e tape) (stations e tape)) out
+  pub showed-text : left ≡ over (textOf (answered e tape) (sheetWords e tape)) out
   unfolding pagedBytes shownBytes
   showed-text = s .left ∙ rw (passed .0, passed .1)
 
   -- and it is as many bytes as are told
-  pub showed-sheet : take (told r .length) left ≡ textOf (answered e tape) (stations e tape)
+  pub showed-sheet : take (toldSheet r .used) left ≡ textOf (answered e tape) (sheetWords e tape)
   unfolding paged shown
   showed-sheet =
-      let text = textOf (answered e tape) (stations e tape) in
-      let long : told r .length ≡ length text = rw (s .answer, passed .0, passed .1) in
+      let text = textOf (answered e tape) (sheetWords e tape) in
+      let long : toldSheet r .used ≡ length text = rw (s .answer, passed .0, passed .1) in
       rw (long, showed-text) (take-append-seam text (drop (length text) out))

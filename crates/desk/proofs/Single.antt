@@ -13,11 +13,11 @@ use Rattle.desk.specs.declared.Answer.{Answer}
 use Rattle.desk.specs.declared.Answer.the-variants.{Refused, Adjusted}
 use Rattle.desk.specs.declared.Page.{Page}
 use Rattle.desk.specs.Sheet.{over, Showed, printedIn}
-use Rattle.desk.specs.Answer.{Told, told, second, traversedBy, traversedWordsBy}
+use Rattle.desk.specs.Answer.{ToldTraverse, toldTraverse, adjustedTraverse, traversedBy, traversedWordsBy}
 use Rattle.desk.proofs.Accepted.{accepted, accepted-told, accepted-sound}
 
 -- the answer that tells it
-abbrev telling : Told → Answer
+abbrev telling : ToldTraverse → Answer
 telling t =
     cond (eqb (t .number) 0)
     (Adjusted (record {
@@ -33,20 +33,20 @@ telling t =
 
 module _ (e : ℕ → ℤ) (tape : List ℕ) (room : ℕ) where
   some-leg : traversedBy e tape room .number ≡ 0 → 1 ≤ traversedBy e tape room .legs
-  unfolding second
+  unfolding adjustedTraverse
   some-leg z = let a = accepted e tape room z in rw (accepted-told e tape room a, a .closes) (accepted-sound e tape room a .some)
 
   -- so no refusal has the number 0
-  pub refused-some : (n p : ℕ) → told (Refused n p) ≡ traversedBy e tape room → n ≡ 0 → ⊥
-  refused-some n p h z = omega (arith, some-leg (ap (λ (t : Told). t .number) (sym h) ∙ z), ap (λ (t : Told). t .legs) h)
+  pub refused-some : (n p : ℕ) → toldTraverse (Refused n p) ≡ traversedBy e tape room → n ≡ 0 → ⊥
+  refused-some n p h z = omega (arith, some-leg (ap (λ (t : ToldTraverse). t .number) (sym h) ∙ z), ap (λ (t : ToldTraverse). t .legs) h)
 
-  one-answer : (x : Answer) → told x ≡ traversedBy e tape room → x ≡ telling (traversedBy e tape room)
+  one-answer : (x : Answer) → toldTraverse x ≡ traversedBy e tape room → x ≡ telling (traversedBy e tape room)
   one-answer (Adjusted f) h = ap telling h
   one-answer (Refused n p) h = rw (← h, ne-eqb n 0 (refused-some n p h))
 
 -- `traverse`, and with the entries of a lent table `traverse_in`
 pub traverse-single : (e : ℕ → ℤ) (tape : List ℕ) (words l m : List ℤ) (x y : Answer)
-    → told x ≡ traversedBy e tape (length words) → l ≡ traversedWordsBy e tape words → told y ≡ traversedBy e tape (length words) → m ≡ traversedWordsBy e tape words
+    → toldTraverse x ≡ traversedBy e tape (length words) → l ≡ traversedWordsBy e tape words → toldTraverse y ≡ traversedBy e tape (length words) → m ≡ traversedWordsBy e tape words
     → (x ≡ y) × (l ≡ m)
 traverse-single e tape words l m x y c f g h = (one-answer e tape (length words) x c ∙ sym (one-answer e tape (length words) y g), f ∙ sym h)
 

@@ -13,19 +13,19 @@ use Rattle.whole.proofs.Branch.{by-test}
 use Rattle.whole.proofs.Laws.{abs-neg, near-most, triangle}
 use Rattle.whole.proofs.Ring.{ring, exps}
 use Rattle.sines.proofs.Own.{Entries}
-use Rattle.steps.specs.Area.{small}
+use Rattle.steps.specs.Area.{goodOffsets}
 use Rattle.steps.specs.Closure.{closes}
 use Rattle.steps.specs.Course.{Axis, north, east}
 use Rattle.steps.proofs.Areas.{doubled-most}
 use Rattle.steps.proofs.Sharing.{share-most}
 use Rattle.desk.specs.Line.{run, runAll, preliminary, closure, shareAt, adjusted}
-use Rattle.desk.specs.Traverse.{along, longOf, line, at, placed, offset, offsetsTo, isLoop, areaOf}
-use Rattle.desk.specs.Answer.{told, closesOn, second}
-use Rattle.desk.specs.Inside.{withLegs, Sound, Ended, putTo, takenFrom, Placed, Figured}
+use Rattle.desk.specs.Traverse.{along, longOf, line, wordIndex, withStations, offset, offsetsTo, isLoop, areaOf}
+use Rattle.desk.specs.Answer.{toldTraverse, closesOn, adjustedTraverse}
+use Rattle.desk.specs.Inside.{withLegs, Sound, Ended, putTo, takenFrom, AreaRanged, Figured}
 use Rattle.desk.specs.declared.Answer.the-variants.{Adjusted}
 use Rattle.desk.specs.declared.Figures.{Figures}
 use Rattle.desk.specs.declared.Frame.{Frame}
-use Rattle.desk.specs.declared.Sums.{Sums}
+use Rattle.desk.specs.declared.Closure.{Closure}
 use Rattle.desk.specs.Angles.{Balanced}
 use Rattle.desk.proofs.Compass.{run-up, first-fixed}
 use Rattle.desk.proofs.Running.{drift}
@@ -33,13 +33,13 @@ use Rattle.desk.proofs.Settling.{far-run, placed-length, closes-near, t
 use Rattle.desk.proofs.Words.{word-at}
 
 -- ---- the range of the area step
-small-append : (xs ys : List ℤ) → small ys ≡ true → small (xs ++ ys) ≡ small xs
-unfolding small
+small-append : (xs ys : List ℤ) → goodOffsets ys ≡ true → goodOffsets (xs ++ ys) ≡ goodOffsets xs
+unfolding goodOffsets
 small-append [] ys e = e
 small-append (z ∷ zs) ys e = ap (λ (t : Bool). leb (natAbs z) 130000000 && t) (small-append zs ys e)
 
-small-two : (y z : ℤ) → natAbs y ≤ 130000000 → natAbs z ≤ 130000000 → small (y ∷ z ∷ []) ≡ true
-unfolding small
+small-two : (y z : ℤ) → natAbs y ≤ 130000000 → natAbs z ≤ 130000000 → goodOffsets (y ∷ z ∷ []) ≡ true
+unfolding goodOffsets
 small-two y z h i = rw (le-leb (natAbs y) 130000000 h, le-leb (natAbs z) 130000000 i)
 
 module _ (e : ℕ → ℤ) (entries : Entries e) (b : Balanced) (sound : Sound b) where
@@ -63,8 +63,8 @@ module _ (e : ℕ → ℤ) (entries : Entries e) (b : Balanced) (sound : Sound b
         rw g (omega (arith, near-most (adjusted (line e axis b) k) (along axis (b .from)) 130000000 place-drift, sound .from axis))
 
   module _ (near : (axis : Axis) → natAbs (closure (line e axis b)) ≤ 26000) where
-    offsets-small : (k : ℕ) → k ≤ b .legs → small (offsetsTo e b k) ≡ true
-    unfolding offsetsTo small
+    offsets-small : (k : ℕ) → k ≤ b .legs → goodOffsets (offsetsTo e b k) ≡ true
+    unfolding offsetsTo goodOffsets
     offsets-small zero h = refl
     offsets-small (suc k) h =
         small-append (offsetsTo e b k) (offset e b north k ∷ offset e b east k ∷ [])
@@ -72,8 +72,8 @@ module _ (e : ℕ → ℤ) (entries : Entries e) (b : Balanced) (sound : Sound b
         ∙ offsets-small k (omega arith)
 
     -- ---- in the words
-    module _ (l words : List ℤ) (room : 130 ≤ length l) (g : words ≡ placed e b (b .legs + 1) l) where
-      word : (axis : Axis) (k : ℕ) → k ≤ b .legs → getD words (at axis k) (pos 0) ≡ adjusted (line e axis b) k
+    module _ (l words : List ℤ) (room : 130 ≤ length l) (g : words ≡ withStations e b (b .legs + 1) l) where
+      word : (axis : Axis) (k : ℕ) → k ≤ b .legs → getD words (wordIndex axis k) (pos 0) ≡ adjusted (line e axis b) k
       word axis k h = rw g (word-at e b l axis (b .legs + 1) k (omega arith) (omega (arith, sound .few)))
 
       taken-is : (k : ℕ) → k ≤ b .legs → takenFrom words k ≡ offsetsTo e b k
@@ -82,7 +82,7 @@ module _ (e : ℕ → ℤ) (entries : Entries e) (b : Balanced) (sound : Sound b
       taken-is (suc k) h =
           rw (taken-is k (omega arith), word north k (omega arith), word east k (omega arith), word north 0 (omega arith), word east 0 (omega arith))
 
-      placed-words : Placed (b .legs) words
+      placed-words : AreaRanged (b .legs) words
       placed-words =
           record {
             some = sound .some;
@@ -106,8 +106,8 @@ module _ (e : ℕ → ℤ) (entries : Entries e) (b : Balanced) (sound : Sound b
         (λ t. omega (arith, doubled-most l (offsets-small (b .legs) (omega arith)), offsets-length (b .legs), sound .few)) (λ t. omega arith)
 
 -- ---- the second step, once its test is passed
-module _ (e : ℕ → ℤ) (entries : Entries e) (frame : Frame) (azimuths distances : List ℕ) (spots : List ℤ) (runs : List ℕ) (c : Sums) (h : Ended e (withLegs frame azimuths distances) spots runs c)
-    (x : Bool) (t : x ≡ closes (c .north .v) (c .east .v) (c .run)) (y : x ≡ true) (l : List ℤ) where
+module _ (e : ℕ → ℤ) (entries : Entries e) (frame : Frame) (azimuths distances : List ℕ) (spots : List ℤ) (runs : List ℕ) (c : Closure) (h : Ended e (withLegs frame azimuths distances) spots runs c)
+    (x : Bool) (t : x ≡ closes (c .north .v) (c .east .v) (c .distance)) (y : x ≡ true) (l : List ℤ) where
   abbrev b : Balanced
   b = withLegs frame azimuths distances
 
@@ -118,12 +118,12 @@ module _ (e : ℕ → ℤ) (entries : Entries e) (frame : Frame) (azimuths dista
   all-near axis = closes-near b (h .sound) e axis (sym passed ∙ y)
 
   -- the words are those of the adjusted stations, and in the ranges of the area step
-  pub passed-words : 130 ≤ length l → Placed (frame .legs) (putTo spots runs c (frame .legs + 1) l)
+  pub passed-words : 130 ≤ length l → AreaRanged (frame .legs) (putTo spots runs c (frame .legs + 1) l)
   passed-words room = placed-words e entries b (h .sound) all-near l _ room (put-all-is e entries frame azimuths distances spots runs c h l _ refl)
 
-  pub passed-told : (words : List ℤ) (r : Figures) → words ≡ putTo spots runs c (frame .legs + 1) l → Figured frame c words r → told (Adjusted r) ≡ second e b
-  unfolding second areaOf
+  pub passed-told : (words : List ℤ) (r : Figures) → words ≡ putTo spots runs c (frame .legs + 1) l → Figured frame c words r → toldTraverse (Adjusted r) ≡ adjustedTraverse e b
+  unfolding adjustedTraverse areaOf
   passed-told words r g f =
       let room : 130 ≤ length l = omega (arith, f .room, ap length g, put-length (frame .legs) spots runs c (frame .legs + 1) l) in
       let taken = taken-is e entries b (h .sound) all-near l words room (put-all-is e entries frame azimuths distances spots runs c h l words g) (b .legs) (omega arith) in
-      rw (← passed, y, f .legs, f .w, f .north, f .east, f .precise, f .looped, f .area, taken, h .closed .north, h .closed .east, h .closed .run)
+      rw (← passed, y, f .legs, f .w, f .north, f .east, f .precise, f .looped, f .area, taken, h .closed .north, h .closed .east, h .closed .distance)

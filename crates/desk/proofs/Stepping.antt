@@ -20,7 +20,7 @@ use Rattle.desk.specs.declared.Answer.{Answer}
 use Rattle.desk.specs.declared.Checked.{Checked}
 use Rattle.desk.specs.declared.Checked.the-variants as checked
 use Rattle.desk.specs.declared.Frame.{Frame}
-use Rattle.desk.specs.Answer.{told, refused, First, stopped, good, checkedAngles, firstOf, firstFor, second, secondWords, afterFirst, wordsAfterFirst, traversedBy, traversedWordsBy}
+use Rattle.desk.specs.Answer.{toldTraverse, refusedTraverse, First, stopped, good, checkedAngles, firstOf, firstFor, adjustedTraverse, adjustedWords, afterFirst, wordsAfterFirst, traversedBy, traversedWordsBy}
 use Rattle.desk.specs.Traverse.{along}
 use Rattle.desk.specs.Inside.{Known, Ready, Sound, checkedAs, withLegs}
 use Rattle.tape.proofs.Standing.{took, took-not}
@@ -75,17 +75,17 @@ module _ (tape : List ℕ) (r : Checked) (azimuths distances : List ℕ) (f : ch
 
   module _ (e : ℕ → ℤ) where
     module _ (n p : ℕ) (h : r ≡ checked.Refused n p) where
-      pub stopped-told : refused n p ≡ afterFirst e (checkedAngles (fieldsOf tape))
+      pub stopped-told : refusedTraverse n p ≡ afterFirst e (checkedAngles (fieldsOf tape))
       stopped-told = by-checked (afterFirst e) (checked.Refused n p) h
 
       pub stopped-words : (words : List ℤ) → words ≡ wordsAfterFirst e (checkedAngles (fieldsOf tape)) words
       stopped-words words = by-checked (λ (x : First). wordsAfterFirst e x words) (checked.Refused n p) h
 
     module _ (b : Frame) (h : r ≡ checked.Good b) where
-      pub settled-told : (a : Answer) → told a ≡ second e (withLegs b azimuths distances) → told a ≡ afterFirst e (checkedAngles (fieldsOf tape))
+      pub settled-told : (a : Answer) → toldTraverse a ≡ adjustedTraverse e (withLegs b azimuths distances) → toldTraverse a ≡ afterFirst e (checkedAngles (fieldsOf tape))
       settled-told a g = g ∙ by-checked (afterFirst e) (checked.Good b) h
 
-      pub settled-words : (l words : List ℤ) → l ≡ secondWords e (withLegs b azimuths distances) words → l ≡ wordsAfterFirst e (checkedAngles (fieldsOf tape)) words
+      pub settled-words : (l words : List ℤ) → l ≡ adjustedWords e (withLegs b azimuths distances) words → l ≡ wordsAfterFirst e (checkedAngles (fieldsOf tape)) words
       settled-words l words g = g ∙ by-checked (λ (x : First). wordsAfterFirst e x words) (checked.Good b) h
 
 -- ---- the whole, by any table of sines
@@ -94,7 +94,7 @@ known-is tape t b f c h = let k = took tape c (sym f ∙ h) in record { bytes = 
 
 module _ (e : ℕ → ℤ) (tape : List ℕ) (words : List ℤ) where
   module _ (wide : 130 ≤ length words) (c : Control) (known : Known tape c) where
-    pub known-told : (r : Answer) → told r ≡ afterFirst e (checkedAngles (fieldsOf tape)) → told r ≡ traversedBy e tape (length words)
+    pub known-told : (r : Answer) → toldTraverse r ≡ afterFirst e (checkedAngles (fieldsOf tape)) → toldTraverse r ≡ traversedBy e tape (length words)
     unfolding traversedBy firstFor firstOf
     known-told r g = rw (le-ltb (length words) 130 wide, known .reads .reads) g
 
@@ -103,7 +103,7 @@ module _ (e : ℕ → ℤ) (tape : List ℕ) (words : List ℤ) where
     known-words l g = rw (le-ltb (length words) 130 wide, known .reads .reads) g
 
   module _ (few : length words < 130) where
-    pub short-told : refused 1 0 ≡ traversedBy e tape (length words)
+    pub short-told : refusedTraverse 1 0 ≡ traversedBy e tape (length words)
     unfolding traversedBy firstFor
     short-told = rw (lt-ltb (length words) 130 few)
 
@@ -113,7 +113,7 @@ module _ (e : ℕ → ℤ) (tape : List ℕ) (words : List ℤ) where
 
   module _ (wide : 130 ≤ length words) (t : Taken) (f : t ≡ takenOf tape) where
     module _ (n p : ℕ) (h : t ≡ taken.Refused n p) where
-      pub refused-told : refused n p ≡ traversedBy e tape (length words)
+      pub refused-told : refusedTraverse n p ≡ traversedBy e tape (length words)
       unfolding traversedBy firstFor firstOf
       refused-told = rw (le-ltb (length words) 130 wide, took-not tape n p (sym f ∙ h))
 
@@ -122,7 +122,7 @@ module _ (e : ℕ → ℤ) (tape : List ℕ) (words : List ℤ) where
       refused-words = rw (le-ltb (length words) 130 wide, took-not tape n p (sym f ∙ h))
 
     module _ (bytes : AllBytes tape) (c : Control) (h : t ≡ taken.Reads c) where
-      pub good-told : (r : Answer) → told r ≡ afterFirst e (checkedAngles (fieldsOf tape)) → told r ≡ traversedBy e tape (length words)
+      pub good-told : (r : Answer) → toldTraverse r ≡ afterFirst e (checkedAngles (fieldsOf tape)) → toldTraverse r ≡ traversedBy e tape (length words)
       good-told = known-told wide c (known-is tape t bytes f c h)
 
       pub good-words : (l : List ℤ) → l ≡ wordsAfterFirst e (checkedAngles (fieldsOf tape)) words → l ≡ traversedWordsBy e tape words

@@ -9,7 +9,7 @@ use lib.ListN.{length, getD}
 use lib.IntN.{ℤ, pos}
 use Rattle.steps.specs.Course.{Axis, north, east}
 use Rattle.desk.specs.Line.{adjusted}
-use Rattle.desk.specs.Traverse.{along, line, at, placed}
+use Rattle.desk.specs.Traverse.{along, line, wordIndex, withStations}
 use Rattle.desk.specs.Inside.{Sound}
 use Rattle.desk.specs.Angles.{Balanced}
 use Rattle.desk.proofs.Pairs.{apart, own, before, behind}
@@ -18,29 +18,29 @@ use Rattle.desk.proofs.Settling.{far-run, placed-length}
 
 module _ (e : ℕ → ℤ) (b : Balanced) (l : List ℤ) where
   -- behind the stations nothing changes
-  pub words-later : (n i : ℕ) → 2 * n ≤ i → getD (placed e b n l) i (pos 0) ≡ getD l i (pos 0)
-  unfolding placed
+  pub words-later : (n i : ℕ) → 2 * n ≤ i → getD (withStations e b n l) i (pos 0) ≡ getD l i (pos 0)
+  unfolding withStations
   words-later zero i h = refl
-  words-later (suc n) i h = apart (placed e b n l) n _ _ i (λ f. omega arith) (λ f. omega arith) ∙ words-later n i (omega arith)
+  words-later (suc n) i h = apart (withStations e b n l) n _ _ i (λ f. omega arith) (λ f. omega arith) ∙ words-later n i (omega arith)
 
   -- the word of each station
-  pub word-at : (axis : Axis) (n k : ℕ) → k < n → 2 * n ≤ length l → getD (placed e b n l) (at axis k) (pos 0) ≡ adjusted (line e axis b) k
-  unfolding placed
+  pub word-at : (axis : Axis) (n k : ℕ) → k < n → 2 * n ≤ length l → getD (withStations e b n l) (wordIndex axis k) (pos 0) ≡ adjusted (line e axis b) k
+  unfolding withStations
   word-at axis zero k h r = absurd (omega arith)
   word-at axis (suc n) k h r =
       elim (ℕ-discrete k n) [
         | yes i ↦ rw i (station axis)
-        | no i ↦ apart (placed e b n l) n _ _ (at axis k) (before n k i axis) (behind n k i axis) ∙ word-at axis n k (omega arith) (omega arith)
+        | no i ↦ apart (withStations e b n l) n _ _ (wordIndex axis k) (before n k i axis) (behind n k i axis) ∙ word-at axis n k (omega arith) (omega arith)
       ]
     where
-      station : (a : Axis) → getD (placed e b (suc n) l) (at a n) (pos 0) ≡ adjusted (line e a b) n
-      station north = own (placed e b n l) n _ _ north (omega (arith, placed-length e b n l))
-      station east = own (placed e b n l) n _ _ east (omega (arith, placed-length e b n l))
+      station : (a : Axis) → getD (withStations e b (suc n) l) (wordIndex a n) (pos 0) ≡ adjusted (line e a b) n
+      station north = own (withStations e b n l) n _ _ north (omega (arith, placed-length e b n l))
+      station east = own (withStations e b n l) n _ _ east (omega (arith, placed-length e b n l))
 
   module _ (sound : Sound b) (room : 130 ≤ length l) where
     -- the first and the last station are exactly the fixed ones
-    pub first-word : (axis : Axis) → getD (placed e b (b .legs + 1) l) (at axis 0) (pos 0) ≡ pos (along axis (b .from))
+    pub first-word : (axis : Axis) → getD (withStations e b (b .legs + 1) l) (wordIndex axis 0) (pos 0) ≡ pos (along axis (b .from))
     first-word axis = word-at axis (b .legs + 1) 0 (omega arith) (omega (arith, sound .few)) ∙ first-fixed (line e axis b) (far-run b sound)
 
-    pub last-word : (axis : Axis) → getD (placed e b (b .legs + 1) l) (at axis (b .legs)) (pos 0) ≡ pos (along axis (b .to))
+    pub last-word : (axis : Axis) → getD (withStations e b (b .legs + 1) l) (wordIndex axis (b .legs)) (pos 0) ≡ pos (along axis (b .to))
     last-word axis = word-at axis (b .legs + 1) (b .legs) (omega arith) (omega (arith, sound .few)) ∙ last-fixed (line e axis b) (far-run b sound)

@@ -18,7 +18,7 @@ use Rattle.tape.specs.declared.Reading.the-variants as reading
 use Rattle.tape.specs.Tape.{readingOf}
 use Rattle.desk.specs.Angles.{misclosureOf, Balanced, balancedTraverse}
 use Rattle.desk.specs.Line.{run, closure}
-use Rattle.desk.specs.Traverse.{longOf, line, placed, isLoop, areaOf}
+use Rattle.desk.specs.Traverse.{longOf, line, withStations, isLoop, areaOf}
 use Rattle.desk.specs.declared.Answer.{Answer}
 use Rattle.desk.specs.declared.Answer.the-variants.{Refused, Adjusted}
 
@@ -33,42 +33,42 @@ stationWords = 2 * mostStations
 
 -- what is told: number, place, n, W, both closures, the precision number, the doubled area, and
 -- whether the traverse is a loop
-pub record Told : Type 0 where
+pub record ToldTraverse : Type 0 where
   pub number : ℕ
   pub place : ℕ
   pub legs : ℕ
   pub w : ℤ
-  pub north : ℤ
-  pub east : ℤ
+  pub northClosure : ℤ
+  pub eastClosure : ℤ
   pub precision : ℕ
   pub area : ℤ
   pub loop : Bool
 
 -- "A refusal returns number and place, every other number zero"
-abbrev pub refused : ℕ → ℕ → Told
-refused n p =
+abbrev pub refusedTraverse : ℕ → ℕ → ToldTraverse
+refusedTraverse n p =
     record {
       number = n;
       place = p;
       legs = 0;
       w = pos 0;
-      north = pos 0;
-      east = pos 0;
+      northClosure = pos 0;
+      eastClosure = pos 0;
       precision = 0;
       area = pos 0;
       loop = false;
     }
 
-abbrev pub told : Answer → Told
-told (Refused n p) = refused n p
-told (Adjusted f) =
+abbrev pub toldTraverse : Answer → ToldTraverse
+toldTraverse (Refused n p) = refusedTraverse n p
+toldTraverse (Adjusted f) =
     record {
       number = 0;
       place = 0;
       legs = f .legs;
       w = f .w .v;
-      north = f .north .v;
-      east = f .east .v;
+      northClosure = f .«north_closure» .v;
+      eastClosure = f .«east_closure» .v;
       precision = f .precision;
       area = f .area .v;
       loop = f .looped;
@@ -110,44 +110,44 @@ distanceRun b = run (longOf b) (b .legs)
 unfoldable pub closesOn : (ℕ → ℤ) → Balanced → Bool
 closesOn e b = closes (northClosure e b) (eastClosure e b) (distanceRun b)
 
-unfoldable pub second : (ℕ → ℤ) → Balanced → Told
-second e b =
+unfoldable pub adjustedTraverse : (ℕ → ℤ) → Balanced → ToldTraverse
+adjustedTraverse e b =
     cond (closesOn e b)
     (record {
       number = 0;
       place = 0;
       legs = b .legs;
       w = b .w .v;
-      north = northClosure e b;
-      east = eastClosure e b;
+      northClosure = northClosure e b;
+      eastClosure = eastClosure e b;
       precision = precision (northClosure e b) (eastClosure e b) (distanceRun b);
       area = areaOf e b;
       loop = isLoop b;
     })
-    (refused badClosure (b .place))
+    (refusedTraverse badClosure (b .place))
 
 -- "Accepted coordinates go to a lent list of signed 64-bit words"; on a refusal "lent memory is
 -- untouched"
-unfoldable pub secondWords : (ℕ → ℤ) → Balanced → List ℤ → List ℤ
-secondWords e b words = cond (closesOn e b) (placed e b (b .legs + 1) words) words
+unfoldable pub adjustedWords : (ℕ → ℤ) → Balanced → List ℤ → List ℤ
+adjustedWords e b words = cond (closesOn e b) (withStations e b (b .legs + 1) words) words
 
 -- ---- the whole: the first step, then the second
-abbrev pub afterFirst : (ℕ → ℤ) → First → Told
-afterFirst e (stopped n p) = refused n p
-afterFirst e (good b) = second e b
+abbrev pub afterFirst : (ℕ → ℤ) → First → ToldTraverse
+afterFirst e (stopped n p) = refusedTraverse n p
+afterFirst e (good b) = adjustedTraverse e b
 
-unfoldable pub traversedBy : (ℕ → ℤ) → List ℕ → ℕ → Told
+unfoldable pub traversedBy : (ℕ → ℤ) → List ℕ → ℕ → ToldTraverse
 traversedBy e tape room = afterFirst e (firstFor tape room)
 
 abbrev pub wordsAfterFirst : (ℕ → ℤ) → First → List ℤ → List ℤ
 wordsAfterFirst e (stopped n p) words = words
-wordsAfterFirst e (good b) words = secondWords e b words
+wordsAfterFirst e (good b) words = adjustedWords e b words
 
 unfoldable pub traversedWordsBy : (ℕ → ℤ) → List ℕ → List ℤ → List ℤ
 traversedWordsBy e tape words = wordsAfterFirst e (firstFor tape (length words)) words
 
 -- ---- the traverse of the rules: by the entries of the desk's own table
-abbrev pub traversed : List ℕ → ℕ → Told
+abbrev pub traversed : List ℕ → ℕ → ToldTraverse
 traversed tape room = traversedBy entry tape room
 
 abbrev pub traversedWords : List ℕ → List ℤ → List ℤ

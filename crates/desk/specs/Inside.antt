@@ -11,7 +11,7 @@ use lib.Signed.{leZ}
 use Rattle.answer.specs.Limit.{mostLegs, lowest, highest, leastFactor, mostFactor}
 use Rattle.answer.specs.Limit.{leastDistance, mostDistance, mostCoordinate}
 use Rattle.minutes.specs.Quadrant.{circle}
-use Rattle.steps.specs.Area.{mostOffset, doubled, small as Area·small}
+use Rattle.steps.specs.Area.{mostOffset, doubled, goodOffsets}
 use Rattle.steps.specs.Course.{Axis, north, east, course}
 use Rattle.steps.specs.Azimuth.{balanced}
 use Rattle.steps.specs.Closure.{mostClosure, mostSum, precision}
@@ -19,11 +19,11 @@ use Rattle.steps.specs.Distance.{leastCombined, mostCombined, grid, seaLevel, c
 use Rattle.steps.specs.Share.{share}
 use Rattle.whole.specs.Filled.{filled}
 use Rattle.desk.specs.Angles.{angleAt, distanceAt, Balanced}
-use Rattle.desk.specs.Answer.{mostStations, stationWords, told, First, stopped, good}
+use Rattle.desk.specs.Answer.{mostStations, stationWords, toldTraverse, First, stopped, good}
 use Rattle.desk.specs.Answer.{northClosure, eastClosure, distanceRun}
 use Rattle.desk.specs.Line.{run, preliminary}
 use Rattle.desk.specs.Sheet.{textOf}
-use Rattle.desk.specs.Traverse.{along, longOf, azimuthOf, line, at, same}
+use Rattle.desk.specs.Traverse.{along, longOf, azimuthOf, line, wordIndex, same}
 use Rattle.tape.specs.Fields.{Fields, fieldsOf, AllBytes, DoesRead, controlOf}
 use Rattle.tape.specs.declared.Point.{Point}
 use Rattle.whole.specs.declared.Whole.{Whole}
@@ -35,6 +35,7 @@ use Rattle.desk.specs.declared.Checked.the-variants as checked
 use Rattle.tape.specs.declared.Control.{Control}
 use Rattle.desk.specs.declared.Figures.{Figures}
 use Rattle.desk.specs.declared.Sums.{Sums}
+use Rattle.desk.specs.declared.Closure.{Closure}
 use Rattle.desk.specs.declared.area.Offsets.{Offsets}
 
 -- the longest grid distance: the longest measured one by the largest combined factor, which is
@@ -170,12 +171,12 @@ Advanced e s factor distance azimuth r =
     Added s long (course e north long azimuth) (course e east long azimuth) r
 
 -- sums that leave room for a leg more
-pub record Small (s : Sums) : Type 0 where
+pub record RoomForLeg (s : Sums) : Type 0 where
   pub north : natAbs (s .north .v) < sumBound
   pub east : natAbs (s .east .v) < sumBound
   pub run : s .run < sumBound
 
--- s holds what is summed at station k: both preliminary places and the distance run
+-- s holds what is summed at station k: both preliminary coordinates and the distance run
 pub record Stands (e : ℕ → ℤ) (b : Balanced) (k : ℕ) (s : Sums) : Type 0 where
   pub north : s .north .v ≡ preliminary (line e north b) k
   pub east : s .east .v ≡ preliminary (line e east b) k
@@ -190,24 +191,24 @@ wordAt words i = getD words i (pos 0)
 pub record Ran (e : ℕ → ℤ) (b : Balanced) (n : ℕ) (spots : List ℤ) (runs : List ℕ) : Type 0 where
   pub spot : (axis : Axis) (k : ℕ)
       → k ≤ n
-      → wordAt spots (at axis k) ≡ preliminary (line e axis b) k
+      → wordAt spots (wordIndex axis k) ≡ preliminary (line e axis b) k
   pub run : (k : ℕ) → k ≤ n → getD runs k 0 ≡ run (longOf b) k
 
--- c is what is left at the end of the line: the sums there, less the fixed end
-pub record Left (to : Point) (end c : Sums) : Type 0 where
+-- c is the closure of sums at the end of the line: they less the fixed end, and the distance run
+pub record Left (to : Point) (end : Sums) (c : Closure) : Type 0 where
   pub north : c .north .v ≡ end .north .v -ℤ pos (to .north)
   pub east : c .east .v ≡ end .east .v -ℤ pos (to .east)
-  pub run : c .run ≡ end .run
+  pub distance : c .distance ≡ end .run
 
--- and that is both closures, and the whole distance
-pub record Closed (e : ℕ → ℤ) (b : Balanced) (c : Sums) : Type 0 where
+-- c is the closure of a traverse, by the entries e: both closures, and the whole distance
+pub record Closed (e : ℕ → ℤ) (b : Balanced) (c : Closure) : Type 0 where
   pub north : c .north .v ≡ northClosure e b
   pub east : c .east .v ≡ eastClosure e b
-  pub run : c .run ≡ distanceRun b
+  pub distance : c .distance ≡ distanceRun b
 
 -- the end of the run along a traverse in range, by the entries e: what is kept of every station,
 -- and the closures
-pub record Ended (e : ℕ → ℤ) (b : Balanced) (spots : List ℤ) (runs : List ℕ) (c : Sums)
+pub record Ended (e : ℕ → ℤ) (b : Balanced) (spots : List ℤ) (runs : List ℕ) (c : Closure)
     : Type 0 where
   pub sound : Sound b
   pub room : stationWords ≤ length spots
@@ -216,31 +217,31 @@ pub record Ended (e : ℕ → ℤ) (b : Balanced) (spots : List ℤ) (runs : Lis
   pub closed : Closed e b c
 
 -- closures and distance run, within the limit and within the ranges of the share rule
-pub record Near (c : Sums) : Type 0 where
+pub record Near (c : Closure) : Type 0 where
   pub north : natAbs (c .north .v) ≤ mostClosure
   pub east : natAbs (c .east .v) ≤ mostClosure
-  pub far : 1 ≤ c .run
-  pub most : c .run ≤ mostSum
+  pub far : 1 ≤ c .distance
+  pub most : c .distance ≤ mostSum
 
 -- stations 0 to n whose shares of these closures can be taken
-pub record Shared (n : ℕ) (spots : List ℤ) (runs : List ℕ) (c : Sums) : Type 0 where
+pub record Shared (n : ℕ) (spots : List ℤ) (runs : List ℕ) (c : Closure) : Type 0 where
   pub few : n ≤ mostLegs
   pub room : stationWords ≤ length spots
   pub room-run : mostStations ≤ length runs
   pub north : (k : ℕ) → k ≤ n → natAbs (wordAt spots (2 * k)) < sumBound
   pub east : (k : ℕ) → k ≤ n → natAbs (wordAt spots (2 * k + 1)) < sumBound
-  pub part : (k : ℕ) → k ≤ n → getD runs k 0 ≤ c .run
+  pub part : (k : ℕ) → k ≤ n → getD runs k 0 ≤ c .distance
 
 -- the words with the first k stations put in, each less its share of the closures
-unfoldable pub putTo : List ℤ → List ℕ → Sums → ℕ → List ℤ → List ℤ
+unfoldable pub putTo : List ℤ → List ℕ → Closure → ℕ → List ℤ → List ℤ
 putTo spots runs c zero words = words
 putTo spots runs c (suc k) words =
     let r = getD runs k 0 in
     set
     (set (putTo spots runs c k words) (2 * k)
-    (wordAt spots (2 * k) -ℤ share (c .north .v) r (c .run)))
+    (wordAt spots (2 * k) -ℤ share (c .north .v) r (c .distance)))
     (2 * k + 1)
-    (wordAt spots (2 * k + 1) -ℤ share (c .east .v) r (c .run))
+    (wordAt spots (2 * k + 1) -ℤ share (c .east .v) r (c .distance))
 
 -- the first k stations of the words, northing, then easting, taken from the first
 unfoldable pub takenFrom : List ℤ → ℕ → List ℤ
@@ -262,22 +263,22 @@ pub record Ranged (o : Offsets) : Type 0 where
   pub east : natAbs (o .east .v) ≤ mostOffset
 
 -- words of n stations within the ranges of the area step
-pub record Placed (n : ℕ) (words : List ℤ) : Type 0 where
+pub record AreaRanged (n : ℕ) (words : List ℤ) : Type 0 where
   pub some : 1 ≤ n
   pub few : n ≤ mostLegs
   pub room : stationWords ≤ length words
   pub north : (k : ℕ) → k < n → natAbs (wordAt words (2 * k)) < sumBound
   pub east : (k : ℕ) → k < n → natAbs (wordAt words (2 * k + 1)) < sumBound
-  pub near : Area·small (takenFrom words n) ≡ true
+  pub near : goodOffsets (takenFrom words n) ≡ true
 
 -- the figures of a traverse whose closures and words are these
-pub record Figured (b : Frame) (c : Sums) (words : List ℤ) (r : Figures) : Type 0 where
+pub record Figured (b : Frame) (c : Closure) (words : List ℤ) (r : Figures) : Type 0 where
   pub room : stationWords ≤ length words
   pub legs : r .legs ≡ b .legs
   pub w : r .w ≡ b .w
-  pub north : r .north ≡ c .north
-  pub east : r .east ≡ c .east
-  pub precise : r .precision ≡ precision (c .north .v) (c .east .v) (c .run)
+  pub north : r .«north_closure» ≡ c .north
+  pub east : r .«east_closure» ≡ c .east
+  pub precise : r .precision ≡ precision (c .north .v) (c .east .v) (c .distance)
   pub looped : r .looped ≡ same (b .from) (b .to)
   pub area : r .area .v
       ≡ cond (same (b .from) (b .to)) (doubled (takenFrom words (b .legs))) (pos 0)
@@ -286,5 +287,5 @@ pub record Figured (b : Frame) (c : Sums) (words : List ℤ) (r : Figures) : Typ
 -- has few legs, and its text has room
 pub record Shows (x : Answer) (words : List ℤ) (out : List ℕ) : Type 0 where
   pub some : (n p : ℕ) → x ≡ answer.Refused n p → n ≡ 0 → ⊥
-  pub few : told x .number ≡ 0 → told x .legs ≤ mostLegs
-  pub room : told x .number ≡ 0 → length (textOf (told x) words) ≤ length out
+  pub few : toldTraverse x .number ≡ 0 → toldTraverse x .legs ≤ mostLegs
+  pub room : toldTraverse x .number ≡ 0 → length (textOf (toldTraverse x) words) ≤ length out

@@ -11,8 +11,8 @@ use Rattle.answer.specs.Refusal.{noRoom}
 use Rattle.steps.specs.Course.{north, east}
 use Rattle.minutes.specs.Entry.{entry}
 use Rattle.desk.specs.Answer.{stationWords, traversedBy, traversedWordsBy}
-use Rattle.desk.specs.Answer.{Told as Traversed}
-use Rattle.desk.specs.Traverse.{at}
+use Rattle.desk.specs.Answer.{ToldTraverse}
+use Rattle.desk.specs.Traverse.{wordIndex}
 use Rattle.text.specs.Text.{ascii, decimal, signed, plain}
 use Rattle.desk.specs.declared.Page.{Page}
 use Rattle.desk.specs.declared.Page.the-variants.{Refused, Text}
@@ -46,7 +46,8 @@ stationLine k n e =
 
 -- the line of station k, whose coordinates are in the words, and the lines of the first k stations
 unfoldable pub lineOf : List ℤ → ℕ → List ℕ
-lineOf words k = stationLine k (getD words (at north k) (pos 0)) (getD words (at east k) (pos 0))
+lineOf words k =
+    stationLine k (getD words (wordIndex north k) (pos 0)) (getD words (wordIndex east k) (pos 0))
 
 unfoldable pub stationLines : List ℤ → ℕ → List ℕ
 stationLines words zero = []
@@ -57,9 +58,9 @@ unfoldable pub areaLine : ℤ → Bool → List ℕ
 areaLine area loop = cond loop (ascii "AREA2 " ++ plain areaDecimals area ++ ascii "\n") []
 
 -- the sheet of an adjusted traverse, and of its stations' words
-unfoldable pub textOf : Traversed → List ℤ → List ℕ
+unfoldable pub textOf : ToldTraverse → List ℤ → List ℕ
 textOf t words =
-    closeLine (t .w) (t .north) (t .east) (t .precision)
+    closeLine (t .w) (t .northClosure) (t .eastClosure) (t .precision)
     ++ stationLines words (t .legs + 1)
     ++ areaLine (t .area) (t .loop)
 
@@ -68,11 +69,11 @@ textOf t words =
 abbrev pub over : List ℕ → List ℕ → List ℕ
 over bytes out = bytes ++ drop (length bytes) out
 
-unfoldable pub shown : Traversed → List ℤ → Page
+unfoldable pub shown : ToldTraverse → List ℤ → Page
 shown t words =
     cond (eqb (t .number) 0) (Text (length (textOf t words))) (Refused (t .number) (t .place))
 
-unfoldable pub shownBytes : Traversed → List ℤ → List ℕ → List ℕ
+unfoldable pub shownBytes : ToldTraverse → List ℤ → List ℕ → List ℕ
 shownBytes t words out = cond (eqb (t .number) 0) (over (textOf t words) out) out
 
 -- "under 4,096 bytes for the sheet" there is no room. src/lib.rt has the same name
@@ -85,46 +86,46 @@ abbrev pub ownWords : List ℤ
 ownWords = replicate stationWords (pos 0)
 
 -- by the entries e of a table of sines
-abbrev pub answered : (ℕ → ℤ) → List ℕ → Traversed
+abbrev pub answered : (ℕ → ℤ) → List ℕ → ToldTraverse
 answered e tape = traversedBy e tape stationWords
 
-abbrev pub stations : (ℕ → ℤ) → List ℕ → List ℤ
-stations e tape = traversedWordsBy e tape ownWords
+abbrev pub sheetWords : (ℕ → ℤ) → List ℕ → List ℤ
+sheetWords e tape = traversedWordsBy e tape ownWords
 
 unfoldable pub paged : (ℕ → ℤ) → List ℕ → ℕ → Page
 paged e tape room =
-    cond (ltb room sheetBytes) (Refused noRoom 0) (shown (answered e tape) (stations e tape))
+    cond (ltb room sheetBytes) (Refused noRoom 0) (shown (answered e tape) (sheetWords e tape))
 
 unfoldable pub pagedBytes : (ℕ → ℤ) → List ℕ → List ℕ → List ℕ
 pagedBytes e tape out =
-    cond (ltb (length out) sheetBytes) out (shownBytes (answered e tape) (stations e tape) out)
+    cond (ltb (length out) sheetBytes) out (shownBytes (answered e tape) (sheetWords e tape) out)
 
 -- ---- what is told: number, place and the text's length
-pub record Told : Type 0 where
+pub record ToldSheet : Type 0 where
   pub number : ℕ
   pub place : ℕ
-  pub length : ℕ
+  pub used : ℕ
 
-abbrev pub told : Page → Told
-told (Refused n p) = record { number = n; place = p; length = 0 }
-told (Text n) = record { number = 0; place = 0; length = n }
+abbrev pub toldSheet : Page → ToldSheet
+toldSheet (Refused n p) = record { number = n; place = p; used = 0 }
+toldSheet (Text n) = record { number = 0; place = 0; used = n }
 
 -- ---- what the sheet step owes: r is its answer, tells what the rules say, and out′ is what it
 -- leaves of out
 pub record Showed (e : ℕ → ℤ) (tape out out′ : List ℕ) (r : Page) : Type 0 where
   pub answer : r ≡ paged e tape (length out)
-  pub tells : told r ≡ told (paged e tape (length out))
+  pub tells : toldSheet r ≡ toldSheet (paged e tape (length out))
   pub left : out′ ≡ pagedBytes e tape out
 
 -- ---- what the program prints: the sheet, or "one line, as `REFUSED 8`"; nothing in bytes that
 -- have no room for a sheet
-unfoldable pub printedOf : Traversed → List ℤ → List ℕ
+unfoldable pub printedOf : ToldTraverse → List ℤ → List ℕ
 printedOf t words =
     cond (eqb (t .number) 0) (textOf t words)
     (ascii "REFUSED " ++ decimal (t .number) ++ ascii "\n")
 
 unfoldable pub printed : List ℕ → List ℕ
-printed tape = printedOf (answered entry tape) (stations entry tape)
+printed tape = printedOf (answered entry tape) (sheetWords entry tape)
 
 abbrev pub printedIn : List ℕ → ℕ → List ℕ
 printedIn tape room = cond (ltb room sheetBytes) [] (printed tape)

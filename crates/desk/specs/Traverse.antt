@@ -37,16 +37,16 @@ line e axis b =
 
 -- "northing, then easting, of stations 0 to n": where a coordinate of station k stands, and the
 -- lent words with the first k stations put in
-abbrev pub at : Axis → ℕ → ℕ
-at north k = 2 * k
-at east k = 2 * k + 1
+abbrev pub wordIndex : Axis → ℕ → ℕ
+wordIndex north k = 2 * k
+wordIndex east k = 2 * k + 1
 
-unfoldable pub placed : (ℕ → ℤ) → Balanced → ℕ → List ℤ → List ℤ
-placed e b zero words = words
-placed e b (suc k) words =
+unfoldable pub withStations : (ℕ → ℤ) → Balanced → ℕ → List ℤ → List ℤ
+withStations e b zero words = words
+withStations e b (suc k) words =
     set
-    (set (placed e b k words) (at north k) (adjusted (line e north b) k))
-    (at east k)
+    (set (withStations e b k words) (wordIndex north k) (adjusted (line e north b) k))
+    (wordIndex east k)
     (adjusted (line e east b) k)
 
 -- "coordinates taken from station 0": northing, then easting, of the first k stations

@@ -1,5 +1,5 @@
 // The doubled area of a loop, from the stations' words.
-use crate::places;
+use crate::coordinates;
 use tape::Point;
 use whole::Whole;
 ghost use mathlib.Core.Path.{_≡_};
@@ -9,7 +9,7 @@ ghost use lib.ListN.{length};
 ghost use lib.IntN.{pos, natAbs, _-ℤ_, _*ℤ_};
 ghost use Rattle.steps.specs.Area.{mostOffset, doubled};
 ghost use Rattle.desk.specs.Traverse.{same};
-ghost use Rattle.desk.specs.Inside.{sumBound, wordAt, takenFrom, TakenAt, Ranged, Placed};
+ghost use Rattle.desk.specs.Inside.{sumBound, wordAt, takenFrom, TakenAt, Ranged, AreaRanged};
 
 // The offsets of a station: how far north and east of the first it stands.
 struct Offsets {
@@ -31,7 +31,7 @@ fn apart(words: &[i64], at: usize, first: usize) -> Whole
         × (natAbs (wordAt (now words) first) < sumBound) ⌝ }
     ensures { λ r. ⌜ r .v ≡ wordAt (now (words .entry)) at -ℤ wordAt (now (words .entry)) first ⌝ }
 {
-    places::word(words, at).minus(places::word(words, first))
+    coordinates::word(words, at).minus(coordinates::word(words, first))
 }
 
 // Station k, taken from the first.
@@ -63,7 +63,7 @@ fn cross(here: Offsets, there: Offsets) -> Whole
 // The sum round n stations. The first station makes no triangle with itself, so the sum ends at the
 // last station but one.
 fn round(words: &[i64], n: usize) -> Whole
-    requires { ⌜ Placed n (now words) ⌝ }
+    requires { ⌜ AreaRanged n (now words) ⌝ }
     ensures { λ r. ⌜ r .v ≡ doubled (takenFrom (now (words .entry)) n) ⌝ }
 {
     let mut sum = Whole { v: 0 };
@@ -80,7 +80,7 @@ fn round(words: &[i64], n: usize) -> Whole
 
 // The doubled area of a loop of n legs; zero where the traverse is no loop.
 pub fn area(looped: bool, n: usize, words: &[i64]) -> Whole
-    requires { ⌜ Placed n (now words) ⌝ }
+    requires { ⌜ AreaRanged n (now words) ⌝ }
     ensures { λ r. ⌜ r .v ≡ cond looped (doubled (takenFrom (now (words .entry)) n)) (pos 0) ⌝ }
 {
     if looped {

@@ -1,7 +1,7 @@
 // The run along the legs: each adds its latitude, its departure and its grid distance.
 use crate::Frame;
 use crate::Sums;
-use crate::places;
+use crate::coordinates;
 use minutes::ENTRIES;
 use steps::course;
 use steps::course::Moves;
@@ -11,11 +11,11 @@ ghost use mathlib.Core.Path.{_≡_};
 ghost use Prim.Native.Nat.{_+_, _*_, _≤_, _<_};
 ghost use lib.ListN.{length, getD, set};
 ghost use Rattle.answer.specs.Limit.{mostLegs, leastDistance, mostDistance};
-ghost use Rattle.steps.specs.Course.{north, east, toldOf};
+ghost use Rattle.steps.specs.Course.{north, east, toldMove};
 ghost use Rattle.steps.specs.Distance.{leastCombined, mostCombined, grid};
 ghost use Rattle.desk.specs.Answer.{mostStations, stationWords};
-ghost use Rattle.desk.specs.Inside.{longestLeg, withLegs, LegSound, Sound, Small, Slight};
-ghost use Rattle.desk.specs.Inside.{Begun, Added, Advanced, Stands, Ran};
+ghost use Rattle.desk.specs.Inside.{longestLeg, withLegs, LegSound, Sound, RoomForLeg};
+ghost use Rattle.desk.specs.Inside.{Slight, Begun, Added, Advanced, Stands, Ran};
 ghost use Rattle.sines.specs.Sine.{entryIn};
 
 fn grid_distance(distance: u32, factor: u32) -> u64
@@ -29,10 +29,10 @@ fn grid_distance(distance: u32, factor: u32) -> u64
 
 // One leg on, whose moves are known.
 fn added(s: Sums, long: u64, moves: Moves) -> Sums
-    requires { ⌜ Small s ⌝ }
-    requires { ⌜ Slight (toldOf north moves .value) × Slight (toldOf east moves .value) ⌝ }
+    requires { ⌜ RoomForLeg s ⌝ }
+    requires { ⌜ Slight (toldMove north moves .value) × Slight (toldMove east moves .value) ⌝ }
     requires { ⌜ long ≤ longestLeg ⌝ }
-    ensures { λ r. ⌜ Added s long (toldOf north moves .value) (toldOf east moves .value) r ⌝ }
+    ensures { λ r. ⌜ Added s long (toldMove north moves .value) (toldMove east moves .value) r ⌝ }
 {
     let north = s.north.plus(moves.north());
     let east = s.east.plus(moves.east());
@@ -54,7 +54,7 @@ fn advance(
 ) -> Sums
     requires { ⌜ (k < length (now azimuths)) × (k < length (now distances)) ⌝ }
     requires { ⌜ LegSound factor (getD (now distances) k 0) (getD (now azimuths) k 0) ⌝ }
-    requires { ⌜ Small s ⌝ }
+    requires { ⌜ RoomForLeg s ⌝ }
     ensures { λ r. ⌜ Advanced (entryIn (now (table .entry))) s factor
         (getD (now (distances .entry)) k 0) (getD (now (azimuths .entry)) k 0) r ⌝ }
 {
@@ -80,8 +80,8 @@ fn keep(spots: &mut [i64], runs: &mut [u64], k: usize, s: Sums)
         ≡ set (set (now (spots .entry)) (2 * k) (s .north .v)) (2 * k + 1) (s .east .v) ⌝ }
     ensures runs { λ r. ⌜ now (runs .exit) ≡ set (now (runs .entry)) k (s .run) ⌝ }
 {
-    places::put(spots, 2 * k, s.north);
-    places::put(spots, 2 * k + 1, s.east);
+    coordinates::put(spots, 2 * k, s.north);
+    coordinates::put(spots, 2 * k + 1, s.east);
     runs[k] = s.run;
 }
 

@@ -12,7 +12,7 @@ ghost use mathlib.Core.Path.{_≡_};
 ghost use Prim.Native.Nat.{_≤_};
 ghost use lib.ListN.{length};
 ghost use Rattle.tape.specs.Fields.{fieldsOf};
-ghost use Rattle.desk.specs.Answer.{stationWords, told, checkedAngles};
+ghost use Rattle.desk.specs.Answer.{stationWords, toldTraverse, checkedAngles};
 ghost use Rattle.desk.specs.Answer.{afterFirst, traversed, traversedBy};
 ghost use Rattle.desk.specs.Answer.{wordsAfterFirst, traversedWords, traversedWordsBy};
 ghost use Rattle.desk.specs.Inside.{Known, Shows};
@@ -33,8 +33,8 @@ pub const SHEET_BYTES: usize = 4_096;
 // A traverse whose angles are balanced, but for its legs: how many angles share W, which the second
 // step takes from here, the misclosure W, the combined factor, the two fixed points, and the place
 // of the close. The balanced azimuth and the measured distance of each leg stand in two lists
-// beside it, since a structure is copied wherever it is handed on. No latitude, departure or place
-// of a station stands in it.
+// beside it, since a structure is copied wherever it is handed on. No latitude, departure or
+// coordinate of a station stands in it.
 pub struct Frame {
     pub legs: usize,
     pub angles: usize,
@@ -51,11 +51,19 @@ pub enum Checked {
     Good(Frame),
 }
 
-// What is summed along the legs up to a station: the preliminary place and the distance run.
+// What is summed along the legs up to a station: the preliminary coordinates and the distance run.
 pub struct Sums {
     pub north: Whole,
     pub east: Whole,
     pub run: u64,
+}
+
+// The closure of a traverse: how far north and how far east of the fixed end its preliminary end
+// lies, and the distance run over all legs, which is S.
+pub struct Closure {
+    pub north: Whole,
+    pub east: Whole,
+    pub distance: u64,
 }
 
 // The figures of an adjusted traverse: n, W, both closures, the precision number, the doubled area
@@ -63,8 +71,8 @@ pub struct Sums {
 pub struct Figures {
     pub legs: usize,
     pub w: Whole,
-    pub north: Whole,
-    pub east: Whole,
+    pub north_closure: Whole,
+    pub east_closure: Whole,
     pub precision: u64,
     pub area: Whole,
     pub looped: bool,
@@ -82,21 +90,21 @@ pub enum Page {
     Text(usize),
 }
 
+mod adjusting;
 mod angles;
 mod area;
 mod checking;
+mod coordinates;
 mod factor;
 mod legs;
 mod lines;
-mod places;
-mod second;
 
 // A tape that reads, by the sines of a lent table: its angles are checked and balanced, then it is
 // closed and adjusted.
 fn work_in(table: &[u32; ENTRIES], tape: &[u8], c: Control, words: &mut [i64]) -> Answer
     requires { ⌜ Known (now tape) c ⌝ }
     requires { ⌜ stationWords ≤ length (now words) ⌝ }
-    ensures answer { λ r. ⌜ told r
+    ensures answer { λ r. ⌜ toldTraverse r
         ≡ afterFirst (entryIn (now (table .entry)))
         (checkedAngles (fieldsOf (now (tape .entry)))) ⌝ }
     ensures words { λ r. ⌜ now (words .exit)
@@ -109,16 +117,16 @@ fn work_in(table: &[u32; ENTRIES], tape: &[u8], c: Control, words: &mut [i64]) -
     let checked = checking::check_angles(tape, c, &mut azimuths, &mut distances);
     match checked {
         Checked::Refused { number, place } => Answer::Refused { number, place },
-        Checked::Good(b) => second::settle(table, b, &azimuths, &distances, words),
+        Checked::Good(b) => adjusting::settle(table, b, &azimuths, &distances, words),
     }
 }
 
-// The same by the desk's own table, which is laid out where the angles close: all that needs no
-// sine is tested by then.
+// A tape that reads, by the desk's own table, which is laid out where the angles close: all that
+// needs no sine is tested by then.
 fn work(tape: &[u8], c: Control, words: &mut [i64]) -> Answer
     requires { ⌜ Known (now tape) c ⌝ }
     requires { ⌜ stationWords ≤ length (now words) ⌝ }
-    ensures answer { λ r. ⌜ told r
+    ensures answer { λ r. ⌜ toldTraverse r
         ≡ afterFirst entry (checkedAngles (fieldsOf (now (tape .entry)))) ⌝ }
     ensures words { λ r. ⌜ now (words .exit)
         ≡ wordsAfterFirst entry (checkedAngles (fieldsOf (now (tape .entry))))
@@ -133,11 +141,11 @@ fn work(tape: &[u8], c: Control, words: &mut [i64]) -> Answer
     }
 }
 
-// The whole by the sines of a lent table, whatever it holds: a tape in, an adjusted traverse out.
+// The traverse by the sines of a lent table, whatever it holds: a tape in, an adjusted traverse out.
 // No word is written on a refusal. A caller that works many tapes takes the desk's table once and
 // lends it.
 pub fn traverse_in(table: &[u32; ENTRIES], tape: &[u8], words: &mut [i64]) -> Answer
-    ensures answer { λ r. ⌜ told r
+    ensures answer { λ r. ⌜ toldTraverse r
         ≡ traversedBy (entryIn (now (table .entry))) (now (tape .entry))
         (length (now (words .entry))) ⌝ }
     ensures words { λ r. ⌜ now (words .exit)
@@ -159,7 +167,8 @@ pub fn traverse_in(table: &[u32; ENTRIES], tape: &[u8], words: &mut [i64]) -> An
 
 // The traverse of the rules, by the desk's own table.
 pub fn traverse(tape: &[u8], words: &mut [i64]) -> Answer
-    ensures answer { λ r. ⌜ told r ≡ traversed (now (tape .entry)) (length (now (words .entry))) ⌝ }
+    ensures answer { λ r. ⌜ toldTraverse r
+        ≡ traversed (now (tape .entry)) (length (now (words .entry))) ⌝ }
     ensures words { λ r. ⌜ now (words .exit)
         ≡ traversedWords (now (tape .entry)) (now (words .entry)) ⌝ }
 {
@@ -179,9 +188,9 @@ pub fn traverse(tape: &[u8], words: &mut [i64]) -> Answer
 // An answer of the traverse, shown: its refusal, or its text in the lent bytes.
 fn show(answer: Answer, words: &[i64; STATION_WORDS], out: &mut [u8]) -> Page
     requires { ⌜ Shows answer (now words) (now out) ⌝ }
-    ensures page { λ r. ⌜ r ≡ shown (told answer) (now (words .entry)) ⌝ }
+    ensures page { λ r. ⌜ r ≡ shown (toldTraverse answer) (now (words .entry)) ⌝ }
     ensures bytes { λ r. ⌜ now (out .exit)
-        ≡ shownBytes (told answer) (now (words .entry)) (now (out .entry)) ⌝ }
+        ≡ shownBytes (toldTraverse answer) (now (words .entry)) (now (out .entry)) ⌝ }
 {
     match answer {
         Answer::Refused { number, place } => Page::Refused { number, place },
@@ -202,7 +211,7 @@ fn compose_in(table: &[u32; ENTRIES], tape: &[u8], c: Control, out: &mut [u8]) -
     show(answer, &words, out)
 }
 
-// The same by the desk's own table, laid out as in `work`.
+// The sheet of a tape that reads, by the desk's own table, laid out as in `work`.
 fn compose(tape: &[u8], c: Control, out: &mut [u8]) -> Page
     requires { ⌜ Known (now tape) c ⌝ }
     requires { ⌜ sheetBytes ≤ length (now out) ⌝ }

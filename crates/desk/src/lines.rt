@@ -12,7 +12,7 @@ ghost use Rattle.text.specs.Text.{ascii, decimal, plain, amount};
 ghost use Rattle.text.specs.Room.{Room, Put};
 ghost use Rattle.desk.specs.Sheet.{closures, closeLine, lineOf, stationLines};
 ghost use Rattle.desk.specs.Sheet.{areaLine, textOf};
-ghost use Rattle.desk.specs.Answer.{mostStations, stationWords, told};
+ghost use Rattle.desk.specs.Answer.{mostStations, stationWords, toldTraverse};
 ghost use Rattle.desk.specs.declared.Answer.the-variants.{Adjusted};
 
 // ---- the decimals of what is printed, and how many units make one: tenths of a second, hundredths
@@ -80,7 +80,7 @@ fn put_first(out: &mut [u8], w: Whole, north: Whole, east: Whole, precision: u64
     put_count(out, i, b" P=", precision)
 }
 
-fn put_place(out: &mut [u8], at: usize, north: Whole, east: Whole) -> usize
+fn put_coordinates(out: &mut [u8], at: usize, north: Whole, east: Whole) -> usize
     requires { ⌜ Room (now out) at
         ((ascii " " ++ plain 2 (north .v)) ++ (ascii " " ++ plain 2 (east .v)) ++ ascii "\n") ⌝ }
     ensures { λ r. ⌜ Put (now (out .entry)) at
@@ -107,7 +107,7 @@ fn put_station(out: &mut [u8], at: usize, words: &[i64; STATION_WORDS], k: usize
         (now (out .exit)) r ⌝ }
 {
     let i = text::put_decimal(out, at, k as u64);
-    put_place(out, i, word(words, 2 * k), word(words, 2 * k + 1))
+    put_coordinates(out, i, word(words, 2 * k), word(words, 2 * k + 1))
 }
 
 // The lines of the stations below n.
@@ -141,11 +141,12 @@ fn put_area(out: &mut [u8], at: usize, area: Whole, looped: bool) -> usize
 // The whole sheet, from the first lent byte.
 pub fn put_all(out: &mut [u8], f: Figures, words: &[i64; STATION_WORDS]) -> usize
     requires { ⌜ f .legs ≤ mostLegs ⌝ }
-    requires { ⌜ Room (now out) 0 (textOf (told (Adjusted f)) (now words)) ⌝ }
-    ensures { λ r. ⌜ Put (now (out .entry)) 0 (textOf (told (Adjusted f)) (now (words .entry)))
+    requires { ⌜ Room (now out) 0 (textOf (toldTraverse (Adjusted f)) (now words)) ⌝ }
+    ensures { λ r. ⌜ Put (now (out .entry)) 0
+        (textOf (toldTraverse (Adjusted f)) (now (words .entry)))
         (now (out .exit)) r ⌝ }
 {
-    let i = put_first(out, f.w, f.north, f.east, f.precision);
+    let i = put_first(out, f.w, f.north_closure, f.east_closure, f.precision);
     let j = put_stations(out, i, words, f.legs + 1);
     put_area(out, j, f.area, f.looped)
 }

@@ -2,7 +2,7 @@
 // entries", in units of the ninth decimal.
 //
 // It is a constant, and every sine of the desk is read from it. A function that names it lays it
-// out by value, so whoever wants many sines takes the table once and lends it.
+// out by value, so a caller that wants many sines takes the table once and lends it.
 ghost use Rattle.minutes.specs.Entry.{Table};
 
 mod constant;

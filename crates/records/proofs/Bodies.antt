@@ -13,7 +13,7 @@ use Rattle.whole.specs.declared.Whole.{Whole}
 use Rattle.records.specs.declared.Record.{Record}
 use Rattle.records.specs.declared.Record.the-variants as kinds
 use Rattle.records.specs.Bytes.{bytes}
-use Rattle.records.specs.Record.{fieldsOf, table, bodyOf, goodOf, bytesOf, recOf, goodRecord}
+use Rattle.records.specs.Record.{kindFields, table, bodyOf, goodOf, bytesOf, recOf, goodRecord}
 use Rattle.records.specs.Record.{bytesOfRecord}
 
 -- ---- the record given is the case found
@@ -23,7 +23,7 @@ module _ (given found : Record) (e : given ≡ found) where
 
 -- its bytes are one for the kind and those of the body
 length-bytes : (r : Record) → length (bytesOfRecord r) ≡ 1 + bodyOf (recOf r .kind)
-unfolding recOf bytesOf bodyOf fieldsOf table bytes
+unfolding recOf bytesOf bodyOf kindFields table bytes
 length-bytes (kinds.Row m f) = refl
 length-bytes (kinds.Project m e) = refl
 length-bytes (kinds.Start n e m) = refl
@@ -44,7 +44,7 @@ module _ (given : Record) (k n : ℕ) (e : k ≡ recOf given .kind) (f : n ≡ b
 pub project-feet : (given : Record) (latitude : ℕ) (elevation : Whole)
     → given ≡ kinds.Project latitude elevation → goodRecord given ≡ true
     → natAbs (elevation .v) ≤ 20000
-unfolding recOf goodOf fieldsOf table
+unfolding recOf goodOf kindFields table
 project-feet given latitude elevation e t =
     go (elevation .v) (and-eq-true-iff (leb 0 latitude && leb latitude 5400) _ .0 (rw e at t) .1)
   where

@@ -21,7 +21,7 @@ num four l k =
     getD l k 0 * 16777216 + getD l (suc k) 0 * 65536 + getD l (suc (suc k)) 0 * 256
     + getD l (suc (suc (suc k))) 0
 
--- and the bytes that spell a number
+-- the bytes that spell a number
 unfoldable pub bytes : Width → ℕ → List ℕ
 bytes two n = (n / 256 % 256) ∷ (n % 256) ∷ []
 bytes four n = (n / 16777216 % 256) ∷ (n / 65536 % 256) ∷ (n / 256 % 256) ∷ (n % 256) ∷ []
@@ -40,7 +40,7 @@ unfoldable pub meant : Coding → Width → ℕ → ℤ
 meant unsigned w n = pos n
 meant twosComplement w n = cond (ltb n (room w / 2)) (pos n) (negsuc (room w - 1 - n))
 
--- and what is written of a number
+-- the number that is written for one that is meant
 unfoldable pub written : Width → ℤ → ℕ
 written w (pos n) = n
 written w (negsuc n) = room w - 1 - n

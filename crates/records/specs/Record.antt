@@ -89,8 +89,8 @@ abbrev pub look : List Kind → ℕ → List Field
 look [] k = []
 look (r ∷ rows) k = cond (eqb k (r .kind)) (r .fields) (look rows k)
 
-unfoldable pub fieldsOf : ℕ → List Field
-fieldsOf k = look table k
+unfoldable pub kindFields : ℕ → List Field
+kindFields k = look table k
 
 -- ---- of a record of a kind: the length of its body, its numbers, whether they are in range, and
 -- its bytes
@@ -115,17 +115,17 @@ spell (f ∷ fs) [] = []
 spell (f ∷ fs) (v ∷ vs) = bytes (f .width) (written (f .width) v) ++ spell fs vs
 
 unfoldable pub bodyOf : ℕ → ℕ
-bodyOf k = total (fieldsOf k)
+bodyOf k = total (kindFields k)
 
 -- the numbers of the record of kind k at the front of l
 unfoldable pub numbersOf : ℕ → List ℕ → List ℤ
-numbersOf k l = numbers (fieldsOf k) l 1
+numbersOf k l = numbers (kindFields k) l 1
 
 unfoldable pub goodOf : ℕ → List ℤ → Bool
-goodOf k vs = inRanges (fieldsOf k) vs
+goodOf k vs = inRanges (kindFields k) vs
 
 unfoldable pub bytesOf : ℕ → List ℤ → List ℕ
-bytesOf k vs = k ∷ spell (fieldsOf k) vs
+bytesOf k vs = k ∷ spell (kindFields k) vs
 
 -- ---- a record by itself: its kind and its numbers. The code's records are these
 pub record Rec : Type 0 where

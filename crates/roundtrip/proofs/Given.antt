@@ -11,10 +11,10 @@ use Rattle.records.specs.declared.Record.{Record}
 use Rattle.records.specs.declared.Record.the-variants as kinds
 use Rattle.records.specs.Bytes.{two, four, num, bytes, twosComplement, meant, written}
 use Rattle.records.specs.Record.{Rec, rec, rowKind, projectKind, startKind, legKind, closeKind}
-use Rattle.records.specs.Record.{table, fieldsOf, numbersOf, goodOf, bytesOf, recOf, goodRecord}
+use Rattle.records.specs.Record.{table, kindFields, numbersOf, goodOf, bytesOf, recOf, goodRecord}
 use Rattle.records.proofs.Bodies.{project-feet}
 use Rattle.tape.specs.Tape.{recordsOf}
-use Rattle.tape.specs.Fields.{number, DoesRead}
+use Rattle.tape.specs.Fields.{numberAt, DoesRead}
 use Rattle.tape.specs.Legs.{Good, Legs, last, leg, Order, row, opens}
 use Rattle.tape.proofs.Back.{numbers-back}
 use Rattle.tape.proofs.Ordered.{order-of}
@@ -27,13 +27,13 @@ abbrev Made : ℕ → Type 0
 Made k = (vs : List ℤ) → goodOf k vs ≡ true → (r : Record) × (recOf r ≡ rec k vs)
 
 row-made : Made rowKind
-unfolding recOf numbersOf fieldsOf table meant
+unfolding recOf numbersOf kindFields table meant
 row-made vs g =
     let b = bytesOf rowKind vs ++ [] in
     (kinds.Row (num two b 1) (num four b 3), ap (rec rowKind) (numbers-back rowKind vs [] g))
 
 project-made : Made projectKind
-unfolding recOf numbersOf fieldsOf table
+unfolding recOf numbersOf kindFields table
 project-made vs g =
     let b = bytesOf projectKind vs ++ [] in (
       kinds.Project (num two b 1) (record { v = meant twosComplement two (num two b 3) }),
@@ -41,7 +41,7 @@ project-made vs g =
     )
 
 start-made : Made startKind
-unfolding recOf numbersOf fieldsOf table meant
+unfolding recOf numbersOf kindFields table meant
 start-made vs g =
     let b = bytesOf startKind vs ++ [] in (
       kinds.Start (num four b 1) (num four b 5) (num four b 9),
@@ -49,13 +49,13 @@ start-made vs g =
     )
 
 leg-made : Made legKind
-unfolding recOf numbersOf fieldsOf table meant
+unfolding recOf numbersOf kindFields table meant
 leg-made vs g =
     let b = bytesOf legKind vs ++ [] in
     (kinds.Leg (num four b 1) (num four b 5), ap (rec legKind) (numbers-back legKind vs [] g))
 
 close-made : Made closeKind
-unfolding recOf numbersOf fieldsOf table meant
+unfolding recOf numbersOf kindFields table meant
 close-made vs g =
     let b = bytesOf closeKind vs ++ [] in (
       kinds.Close (num four b 1) (num four b 5) (num four b 9) (num four b 13),
@@ -64,11 +64,11 @@ close-made vs g =
 
 -- ---- a record in range holds numbers of its types: each comes back from its two or four bytes
 number-back : (k : ℕ) (vs : List ℤ) → goodOf k vs ≡ true → (i : ℕ)
-    → number (rec k (numbersOf k (bytesOf k vs ++ []))) i ≡ number (rec k vs) i
-number-back k vs g i = ap (λ (l : List ℤ). number (rec k l) i) (numbers-back k vs [] g)
+    → numberAt (rec k (numbersOf k (bytesOf k vs ++ []))) i ≡ numberAt (rec k vs) i
+number-back k vs g i = ap (λ (l : List ℤ). numberAt (rec k l) i) (numbers-back k vs [] g)
 
 held : (r : Record) → goodRecord r ≡ true → Held r
-unfolding recOf numbersOf bytesOf fieldsOf table num bytes meant written
+unfolding recOf numbersOf bytesOf kindFields table num bytes meant written
 held (kinds.Row m f) g =
     let back = number-back rowKind (pos m ∷ pos f ∷ []) g in
     (omega (arith, back 0), omega (arith, back 1))

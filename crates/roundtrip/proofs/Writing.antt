@@ -13,7 +13,7 @@ use Rattle.records.specs.declared.Record.{Record}
 use Rattle.records.specs.Record.{goodRecord, bytesOfRecord}
 use Rattle.writer.specs.declared.Written.{Written}
 use Rattle.writer.specs.declared.Written.the-variants.{Refused, Until}
-use Rattle.writer.specs.Write.{Wrote, answerOf, leftOf, told}
+use Rattle.writer.specs.Write.{Wrote, answerOf, leftOf, toldWritten}
 use Rattle.tape.specs.Tape.{tapeOf}
 use Rattle.tape.specs.Legs.{Good}
 use Rattle.roundtrip.specs.Writes.{Writes, none, next, stop, recs, Leaves}
@@ -114,7 +114,7 @@ writing out at (r ∷ rs) =
 
     owes : (w : Written) → answerOf out at (goodRecord r) (bytesOfRecord r) ≡ w
         → Wrote out mid at (goodRecord r) (bytesOfRecord r) w
-    owes w e = record { answer = sym e; tells = ap told (sym e); left = refl }
+    owes w e = record { answer = sym e; tells = ap toldWritten (sym e); left = refl }
 
     go : (x : Written) → answerOf out at (goodRecord r) (bytesOfRecord r) ≡ x
         → ((mid : List ℕ) (n : ℕ) → (left : List ℕ) × (w : Written) × Writes mid n rs left w)

@@ -10,7 +10,7 @@ use native.Mathlib.Nat.{min-eq-left, min-le-right}
 use borrow.Author.Tests.{le-leb, lt-leb}
 use lib.ListN.{getD}
 use lib.IntN.{ℤ, pos, natAbs}
-use Rattle.answer.specs.Told.{told}
+use Rattle.answer.specs.Told.{toldAmount}
 use Rattle.answer.specs.declared.Amount.{Amount}
 use Rattle.minutes.specs.Quadrant.{circle, folded}
 use Rattle.minutes.specs.Entry.{Table, entry, lastMinute}
@@ -77,11 +77,11 @@ lent-quarter t a m r v past h g = g ∙ sym (from-minute (entryIn t) a m r past 
 
 -- ---- so what the desk's own table tells is the paper's
 module _ (t : List ℕ) (right : Table t) (a : ℕ) (r : Amount) where
-  pub own-sine : told r ≡ ofAngle a (sineBy (entryIn t) a) → told r ≡ ofAngle a (sineBy entry a)
+  pub own-sine : toldAmount r ≡ ofAngle a (sineBy (entryIn t) a) → toldAmount r ≡ ofAngle a (sineBy entry a)
   own-sine g = g ∙ ap (λ (e : ℕ → ℤ). ofAngle a (sineBy e a)) (own-entries t right)
 
-  pub own-cosine : told r ≡ ofAngle a (cosineBy (entryIn t) a)
-      → told r ≡ ofAngle a (cosineBy entry a)
+  pub own-cosine : toldAmount r ≡ ofAngle a (cosineBy (entryIn t) a)
+      → toldAmount r ≡ ofAngle a (cosineBy entry a)
   own-cosine g = g ∙ ap (λ (e : ℕ → ℤ). ofAngle a (cosineBy e a)) (own-entries t right)
 
 -- ---- no sine is above 1

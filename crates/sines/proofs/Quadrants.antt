@@ -9,7 +9,7 @@ use lib.Dec.{ltb}
 use lib.IntN.{ℤ, pos, negℤ, natAbs}
 use Rattle.whole.specs.declared.Whole.{Whole}
 use Rattle.whole.proofs.Laws.{abs-neg}
-use Rattle.answer.specs.Told.{told}
+use Rattle.answer.specs.Told.{toldAmount}
 use Rattle.answer.specs.declared.Amount.the-variants.{Is, OutOfRange}
 use Rattle.answer.proofs.Telling.{tells, refuses}
 use Rattle.minutes.specs.Quadrant.{circle, folded, turned, around, ahead}
@@ -100,12 +100,12 @@ module _ (e : ℕ → ℤ) where
     size-is = sym (rw (← sine-is (ltb 6480000 a) refl) (turned-size (ltb 6480000 a) n))
 
   -- what the steps tell
-  pub sine-told : (a x n : ℕ) (v : Whole) → v .v ≡ turned (ltb 6480000 a) (pos n) → pos n ≡ quarterBy e x → x ≡ folded a → a < 12960000 → told (Is v) ≡ ofAngle a (sineBy e a)
+  pub sine-told : (a x n : ℕ) (v : Whole) → v .v ≡ turned (ltb 6480000 a) (pos n) → pos n ≡ quarterBy e x → x ≡ folded a → a < 12960000 → toldAmount (Is v) ≡ ofAngle a (sineBy e a)
   sine-told a x n v d g f h = tells _ v _ (lt-ltb a 12960000 h) (d ∙ sine-is a x n f g _ refl)
 
   pub cosine-told : (a x n : ℕ) (back : Bool) (v : Whole) → v .v ≡ turned back (pos n) → back ≡ ltb 6480000 (ahead a) → pos n ≡ quarterBy e (3240000 - x) → x ≡ folded a → a < 12960000
-      → told (Is v) ≡ ofAngle a (cosineBy e a)
+      → toldAmount (Is v) ≡ ofAngle a (cosineBy e a)
   cosine-told a x n back v d p g f h = tells _ v _ (lt-ltb a 12960000 h) (d ∙ sine-is (ahead a) (3240000 - x) n (rw f (sym (folded-ahead a h))) g back p)
 
-pub too-far : (a : ℕ) (z : ℤ) → 12960000 ≤ a → told OutOfRange ≡ ofAngle a z
+pub too-far : (a : ℕ) (z : ℤ) → 12960000 ≤ a → toldAmount OutOfRange ≡ ofAngle a z
 too-far a z h = refuses _ z (le-ltb a 12960000 h)

@@ -8,7 +8,7 @@ use lib.ListN.{getD}
 use lib.IntN.{ℤ, pos, natAbs, _+ℤ_, _-ℤ_, _*ℤ_}
 use Rattle.whole.specs.Nearest.{nearest}
 use Rattle.answer.specs.Refusal.{outOfRange}
-use Rattle.answer.specs.Told.{Told, given, refused, inRange}
+use Rattle.answer.specs.Told.{ToldStep, given, refused, inRange}
 use Rattle.minutes.specs.Entry.{entry, lastMinute}
 use Rattle.minutes.specs.Exact.{nineDecimals}
 use Rattle.minutes.specs.Quadrant.{circle, halfCircle, tenthsInMinute, turned, around, ahead}
@@ -39,7 +39,7 @@ unfoldable pub entryIn : List ℕ → ℕ → ℤ
 entryIn t m = cond (leb m lastMinute) (pos (min (getD t m 0) nineDecimals)) (entry m)
 
 -- "An angle of 12,960,000 or more is refused (4)"
-abbrev pub ofAngle : ℕ → ℤ → Told
+abbrev pub ofAngle : ℕ → ℤ → ToldStep
 ofAngle a z = inRange (ltb a circle) z
 
 -- the sine and the cosine of an angle as sizes, and whether each is negative: which it is by the
@@ -58,11 +58,11 @@ abbrev pub turnedBy : (ℕ → ℤ) → ℕ → Turned
 turnedBy e a = cond (ltb a circle) (Are (sidesBy e a)) OutOfRange
 
 -- what each case tells of the sine, and of the cosine: the size with its sign
-abbrev pub toldSine : Turned → Told
+abbrev pub toldSine : Turned → ToldStep
 toldSine (Are s) = given (turned (s .past) (pos (s .sine)))
 toldSine OutOfRange = refused outOfRange 0
 
-abbrev pub toldCosine : Turned → Told
+abbrev pub toldCosine : Turned → ToldStep
 toldCosine (Are s) = given (turned (s .back) (pos (s .cosine)))
 toldCosine OutOfRange = refused outOfRange 0
 

@@ -17,12 +17,13 @@ ghost use mathlib.Core.Path.{_≡_};
 ghost use Prim.Native.Nat.{_+_, _-_, _*_, _<_, _≤_, _^_, min};
 ghost use lib.Dec.{ltb};
 ghost use lib.IntN.{pos, natAbs};
-ghost use Rattle.answer.specs.Told.{told};
+ghost use Rattle.answer.specs.Told.{toldAmount};
 ghost use Rattle.minutes.specs.Quadrant.{circle, halfCircle, quarterCircle, tenthsInMinute};
 ghost use Rattle.minutes.specs.Quadrant.{folded, turned, ahead};
 ghost use Rattle.minutes.specs.Exact.{nineDecimals};
 ghost use Rattle.minutes.specs.Entry.{entry, lastMinute};
-ghost use Rattle.sines.specs.Sine.{between as Sine·between, quarterBy, entryIn, sineBy, cosineBy, ofAngle, turnedBy, toldSine, toldCosine};
+ghost use Rattle.sines.specs.Sine.{between as Sine·between, quarterBy, entryIn};
+ghost use Rattle.sines.specs.Sine.{sineBy, cosineBy, ofAngle, turnedBy, toldSine, toldCosine};
 
 // The last minute that has a next one: 90 degrees are a whole minute past it.
 const LAST_START: u32 = LAST_MINUTE as u32 - 1;
@@ -30,7 +31,8 @@ const LAST_START: u32 = LAST_MINUTE as u32 - 1;
 // The tenths of a minute, as wide as the products that they divide.
 const MINUTE: u64 = TENTHS_IN_MINUTE as u64;
 
-// The sine and the cosine of an angle: their sizes, and whether each is negative, the sine past 180 degrees, the cosine between 90 and 270.
+// The sine and the cosine of an angle: their sizes, and whether each is negative, the sine past 180
+// degrees, the cosine between 90 and 270.
 pub struct Sides {
     pub sine: u32,
     pub past: bool,
@@ -38,13 +40,13 @@ pub struct Sides {
     pub back: bool,
 }
 
-// The sizes alone.
+// The sizes of a sine and a cosine, without their signs.
 struct Sizes {
     sine: u32,
     cosine: u32,
 }
 
-// Both of an angle, or it was no angle of the circle.
+// The sine and the cosine of an angle, or it was no angle of the circle.
 pub enum Turned {
     OutOfRange,
     Are(Sides),
@@ -60,7 +62,8 @@ fn counted(e: u32) -> u32
     e
 }
 
-// r tenths past a minute whose entry is e, where the next one's is f and no lower: by a straight line, to the nearest.
+// The sine r tenths past a minute whose entry is e, where the next entry is f and no lower: by a
+// straight line, to the nearest.
 fn rise(e: u32, f: u32, r: u32) -> u32
     requires { ⌜ r ≤ tenthsInMinute ⌝ }
     requires { ⌜ (e ≤ f) × (f ≤ nineDecimals) ⌝ }
@@ -70,7 +73,7 @@ fn rise(e: u32, f: u32, r: u32) -> u32
     e + whole::half_up((f - e) as u64 * r as u64, MINUTE) as u32
 }
 
-// The same where the next one may be lower.
+// The sine r tenths past a minute whose entry is e, where the next entry f may be lower.
 fn between(e: u32, f: u32, r: u32) -> u32
     requires { ⌜ r ≤ tenthsInMinute ⌝ }
     requires { ⌜ (e ≤ nineDecimals) × (f ≤ nineDecimals) ⌝ }
@@ -84,7 +87,7 @@ fn between(e: u32, f: u32, r: u32) -> u32
 }
 
 // The sine r tenths past a minute, by the entries of a lent table. Those of a table of sines rise
-// and are at most 1, which is tried first: then each counts as it stands.
+// and are at most 1, which is tested first: then each counts as it stands.
 fn past_minute(table: &[u32; ENTRIES], m: usize, r: u32) -> u32
     requires { ⌜ (m < lastMinute) × (r ≤ tenthsInMinute) ⌝ }
     ensures is { λ v. ⌜ pos v ≡ Sine·between (entryIn (now (table .entry)) m)
@@ -101,7 +104,8 @@ fn past_minute(table: &[u32; ENTRIES], m: usize, r: u32) -> u32
     between(counted(e), counted(f), r)
 }
 
-// The minute from which an angle of the first quadrant is counted. At 90 degrees it is the one before, 600 tenths back, so that there is always a next.
+// The minute from which an angle of the first quadrant is counted. At 90 degrees it is the one
+// before, 600 tenths back, so that there is always a next.
 fn minute(a: u32) -> u32
     requires { ⌜ a ≤ quarterCircle ⌝ }
     ensures { λ m. ⌜ (m < lastMinute)
@@ -124,8 +128,8 @@ fn quarter_in(table: &[u32; ENTRIES], a: u32) -> u32
     past_minute(table, m as usize, a - TENTHS_IN_MINUTE * m)
 }
 
-// Its sine and its cosine, whose angle is what is left to 90 degrees: the same tenths, counted back
-// from the other end of the table.
+// The sine and the cosine of an angle of the first quadrant. The cosine's angle is what is left to
+// 90 degrees: the same tenths, counted back from the other end of the table.
 fn both_in(table: &[u32; ENTRIES], a: u32) -> Sizes
     requires { ⌜ a ≤ quarterCircle ⌝ }
     ensures sine { λ s. ⌜ pos (s .sine) ≡ quarterBy (entryIn (now (table .entry))) a ⌝ }
@@ -140,7 +144,8 @@ fn both_in(table: &[u32; ENTRIES], a: u32) -> Sizes
     }
 }
 
-// The angle of the first quadrant whose sine has the same size: past 180 degrees the sizes run as from 0 on, and past 90 they run back.
+// The angle of the first quadrant whose sine has the same size: past 180 degrees the sizes run as
+// from 0 on, and past 90 they run back.
 fn fold(angle: u32) -> u32
     requires { ⌜ angle < circle ⌝ }
     ensures is { λ r. ⌜ r ≡ folded angle ⌝ }
@@ -157,8 +162,8 @@ fn fold(angle: u32) -> u32
     HALF_CIRCLE - half
 }
 
-// Whether the cosine is negative.
-fn behind(angle: u32) -> bool
+// Whether the cosine is negative, which it is between 90 and 270 degrees.
+fn cosine_negative(angle: u32) -> bool
     requires { ⌜ angle < circle ⌝ }
     ensures { λ r. ⌜ r ≡ ltb halfCircle (ahead angle) ⌝ }
 {
@@ -184,8 +189,10 @@ fn signed(size: u32, negative: bool) -> Whole
 // the cosine's is what is left to 90 degrees.
 pub fn sides_in(table: &[u32; ENTRIES], angle: u32) -> Turned
     ensures is { λ r. ⌜ r ≡ turnedBy (entryIn (now (table .entry))) angle ⌝ }
-    ensures sine { λ r. ⌜ toldSine r ≡ ofAngle angle (sineBy (entryIn (now (table .entry))) angle) ⌝ }
-    ensures cosine { λ r. ⌜ toldCosine r ≡ ofAngle angle (cosineBy (entryIn (now (table .entry))) angle) ⌝ }
+    ensures sine { λ r. ⌜ toldSine r
+        ≡ ofAngle angle (sineBy (entryIn (now (table .entry))) angle) ⌝ }
+    ensures cosine { λ r. ⌜ toldCosine r
+        ≡ ofAngle angle (cosineBy (entryIn (now (table .entry))) angle) ⌝ }
 {
     if CIRCLE <= angle {
         return Turned::OutOfRange;
@@ -195,14 +202,15 @@ pub fn sides_in(table: &[u32; ENTRIES], angle: u32) -> Turned
         sine: sizes.sine,
         past: HALF_CIRCLE < angle,
         cosine: sizes.cosine,
-        back: behind(angle),
+        back: cosine_negative(angle),
     })
 }
 
 // The sine of an angle in a lent table.
 pub fn sine_in(table: &[u32; ENTRIES], angle: u32) -> Amount
-    ensures is { λ r. ⌜ told r ≡ ofAngle angle (sineBy (entryIn (now (table .entry))) angle) ⌝ }
-    ensures size { λ r. ⌜ natAbs (told r .value) < 2 ^ 32 ⌝ }
+    ensures is { λ r. ⌜ toldAmount r
+        ≡ ofAngle angle (sineBy (entryIn (now (table .entry))) angle) ⌝ }
+    ensures size { λ r. ⌜ natAbs (toldAmount r .value) < 2 ^ 32 ⌝ }
 {
     if CIRCLE <= angle {
         return Amount::OutOfRange;
@@ -212,21 +220,22 @@ pub fn sine_in(table: &[u32; ENTRIES], angle: u32) -> Amount
 
 // The cosine is the sine of the angle plus 90 degrees.
 pub fn cosine_in(table: &[u32; ENTRIES], angle: u32) -> Amount
-    ensures is { λ r. ⌜ told r ≡ ofAngle angle (cosineBy (entryIn (now (table .entry))) angle) ⌝ }
-    ensures size { λ r. ⌜ natAbs (told r .value) < 2 ^ 32 ⌝ }
+    ensures is { λ r. ⌜ toldAmount r
+        ≡ ofAngle angle (cosineBy (entryIn (now (table .entry))) angle) ⌝ }
+    ensures size { λ r. ⌜ natAbs (toldAmount r .value) < 2 ^ 32 ⌝ }
 {
     if CIRCLE <= angle {
         return Amount::OutOfRange;
     }
     Amount::Is(signed(
         quarter_in(table, QUARTER_CIRCLE - fold(angle)),
-        behind(angle),
+        cosine_negative(angle),
     ))
 }
 
 // By the desk's own table, which is laid out for an angle of the circle only.
 pub fn sine(angle: u32) -> Amount
-    ensures { λ r. ⌜ told r ≡ ofAngle angle (sineBy entry angle) ⌝ }
+    ensures { λ r. ⌜ toldAmount r ≡ ofAngle angle (sineBy entry angle) ⌝ }
 {
     if CIRCLE <= angle {
         return Amount::OutOfRange;
@@ -235,7 +244,7 @@ pub fn sine(angle: u32) -> Amount
 }
 
 pub fn cosine(angle: u32) -> Amount
-    ensures { λ r. ⌜ told r ≡ ofAngle angle (cosineBy entry angle) ⌝ }
+    ensures { λ r. ⌜ toldAmount r ≡ ofAngle angle (cosineBy entry angle) ⌝ }
 {
     if CIRCLE <= angle {
         return Amount::OutOfRange;

@@ -15,7 +15,7 @@ use lib.Signed.{ltZ}
 use Rattle.whole.proofs.Laws.{abs-mul, triangle-sub}
 use Rattle.whole.proofs.Sums.{sumTo-size}
 use Rattle.whole.specs.Sum.{sumTo}
-use Rattle.steps.specs.Area.{northing, easting, stations, cross, nextStation, doubledTo, doubled, small}
+use Rattle.steps.specs.Area.{northing, easting, stations, cross, nextStation, doubledTo, doubled, goodOffsets}
 use Rattle.steps.proofs.Laws.{product-most}
 
 -- ---- the test of an offset: by what lies below the range, and what lies above it
@@ -47,42 +47,42 @@ and-true : (a b : Bool) → (a && b) ≡ true → (a ≡ true) × (b ≡ true)
 and-true true b e = (refl, e)
 and-true false b e = absurd (let z : _≡_ {A = ℕ} 0 1 = cc in omega arith)
 
-pub small-at : (l : List ℤ) (i : ℕ) → small l ≡ true → i < length l → natAbs (getD l i (pos 0)) ≤ 130000000
-unfolding small
+pub small-at : (l : List ℤ) (i : ℕ) → goodOffsets l ≡ true → i < length l → natAbs (getD l i (pos 0)) ≤ 130000000
+unfolding goodOffsets
 small-at [] i e h = absurd (not-suc-le-zero h)
-small-at (z ∷ l) zero e h = leb-true (natAbs z) 130000000 (and-true (leb (natAbs z) 130000000) (small l) e .0)
-small-at (z ∷ l) (suc i) e h = small-at l i (and-true (leb (natAbs z) 130000000) (small l) e .1) (le-of-suc-le-suc h)
+small-at (z ∷ l) zero e h = leb-true (natAbs z) 130000000 (and-true (leb (natAbs z) 130000000) (goodOffsets l) e .0)
+small-at (z ∷ l) (suc i) e h = small-at l i (and-true (leb (natAbs z) 130000000) (goodOffsets l) e .1) (le-of-suc-le-suc h)
 
-small-from : (l : List ℤ) (k : ℕ) → k < length l → small (drop k l) ≡ (leb (natAbs (getD l k (pos 0))) 130000000 && small (drop (k + 1) l))
-unfolding small
+small-from : (l : List ℤ) (k : ℕ) → k < length l → goodOffsets (drop k l) ≡ (leb (natAbs (getD l k (pos 0))) 130000000 && goodOffsets (drop (k + 1) l))
+unfolding goodOffsets
 small-from l k h = rw (drop-cons l k (pos 0) h, add-one k)
 
 -- b says whether both offsets of the i-th of n stations are in range
-module _ (l : List ℤ) (i n : ℕ) (b : Bool) (f : b ≡ bothSmall l i) (g : 2 * n ≡ length l) (h : i < n) (e : small (drop (2 * i) l) ≡ small l) where
-  here : small l ≡ (b && small (drop (2 * (i + 1)) l))
+module _ (l : List ℤ) (i n : ℕ) (b : Bool) (f : b ≡ bothSmall l i) (g : 2 * n ≡ length l) (h : i < n) (e : goodOffsets (drop (2 * i) l) ≡ goodOffsets l) where
+  here : goodOffsets l ≡ (b && goodOffsets (drop (2 * (i + 1)) l))
   here =
       let k : 2 * i + 1 + 1 ≡ 2 * (i + 1) = omega arith in
       let first = leb (natAbs (northing l i)) 130000000 in
       let second = leb (natAbs (easting l i)) 130000000 in
       sym e ∙ small-from l (2 * i) (omega arith) ∙ ap (λ (s : Bool). first && s) (small-from l (2 * i + 1) (omega arith))
-      ∙ sym (and-assoc first second (small (drop (2 * i + 1 + 1) l))) ∙ rw (f, k)
+      ∙ sym (and-assoc first second (goodOffsets (drop (2 * i + 1 + 1) l))) ∙ rw (f, k)
 
-  pub small-next : b ≡ true → small (drop (2 * (i + 1)) l) ≡ small l
+  pub small-next : b ≡ true → goodOffsets (drop (2 * (i + 1)) l) ≡ goodOffsets l
   small-next k = sym (here ∙ rw k)
 
-  pub small-stop : b ≡ false → false ≡ small l
+  pub small-stop : b ≡ false → false ≡ goodOffsets l
   small-stop k = sym (here ∙ rw k)
 
-pub small-end : (l : List ℤ) (i n : ℕ) → 2 * n ≡ length l → n ≤ i → small (drop (2 * i) l) ≡ small l → true ≡ small l
-unfolding small
-small-end l i n g h e = let k : length l ≤ 2 * i = omega arith in sym (ap small (drop-of-length-le l k)) ∙ e
+pub small-end : (l : List ℤ) (i n : ℕ) → 2 * n ≡ length l → n ≤ i → goodOffsets (drop (2 * i) l) ≡ goodOffsets l → true ≡ goodOffsets l
+unfolding goodOffsets
+small-end l i n g h e = let k : length l ≤ 2 * i = omega arith in sym (ap goodOffsets (drop-of-length-le l k)) ∙ e
 
 -- ---- the size of a cross product
 pub cross-size : (n : ℕ) (p q a b c d : ℤ) → n ≤ natAbs p + natAbs q → p ≡ a *ℤ b → q ≡ c *ℤ d → natAbs a ≤ 130000000 → natAbs b ≤ 130000000 → natAbs c ≤ 130000000 → natAbs d ≤ 130000000 → n ≤ 33800000000000000
 cross-size n p q a b c d h f g s t u v =
     omega (arith, ap natAbs f ∙ abs-mul a b, ap natAbs g ∙ abs-mul c d, product-most (natAbs a) (natAbs b) 130000000 130000000 s t, product-most (natAbs c) (natAbs d) 130000000 130000000 u v)
 
-module _ (l : List ℤ) (e : small l ≡ true) where
+module _ (l : List ℤ) (e : goodOffsets l ≡ true) where
   cross-most : (i j : ℕ) → i < stations l → j < stations l → natAbs (cross l i j) ≤ 33800000000000000
   unfolding cross
   cross-most i j h k =

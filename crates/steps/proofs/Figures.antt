@@ -8,7 +8,7 @@ use Prim.Native.Nat.{ℕ, _+_, _*_}
 use lib.IntN.{ℤ, pos, negℤ}
 use Rattle.whole.specs.Nearest.{nearest}
 use Rattle.whole.specs.Sum.{sumTo}
-use Rattle.answer.specs.Told.{Told, given, inside}
+use Rattle.answer.specs.Told.{ToldStep, given, inside}
 use Rattle.minutes.specs.Entry.{entry}
 use Rattle.minutes.specs.Exact.{exactSine, exactQuarter, bySeries, series, weight, unity, straight, pi, factorial}
 use Rattle.minutes.specs.Quadrant.{around, turned, folded}
@@ -19,21 +19,21 @@ use Rattle.steps.specs.Share.{share, shareStep}
 use Rattle.steps.specs.Course.{north, east, move, sineAlong, courseStep}
 use Rattle.steps.specs.Root.{digitTo, withPair, worked}
 use Rattle.steps.specs.Closure.{closes, root, precision, closureTest, precisionStep}
-use Rattle.steps.specs.Area.{cross, nextStation, doubledTo, small, areaStep}
+use Rattle.steps.specs.Area.{cross, nextStation, doubledTo, goodOffsets, areaStep}
 
 -- a figure: what a step tells by the rules, and the number that the paper prints
 pub record Figure : Type 0 where
-  pub rule : Told
+  pub rule : ToldStep
   pub paper : ℤ
 
-abbrev fig : Told → ℤ → Figure
+abbrev fig : ToldStep → ℤ → Figure
 fig rule paper = record { rule = rule; paper = paper }
 
 -- degrees, minutes, seconds and a tenth
 abbrev dms : ℕ → ℕ → ℕ → ℕ → ℕ
 dms degrees minutes seconds tenth = ((degrees * 60 + minutes) * 60 + seconds) * 10 + tenth
 
-abbrev sineAt : ℕ → Told
+abbrev sineAt : ℕ → ToldStep
 sineAt a = ofAngle a (sineBy entry a)
 
 pub marked : List Figure
@@ -89,7 +89,7 @@ unfolding marked sineBy quarterBy between entry nearest exactSine around turned 
 marked-hold = refl
 
 pub others-hold : Hold others
-unfolding others turn misclosure closesAngles inside closes root precision cross nextStation doubledTo small sumTo
+unfolding others turn misclosure closesAngles inside closes root precision cross nextStation doubledTo goodOffsets sumTo
 others-hold = refl
 
 pub products-hold : Hold products

@@ -1,5 +1,4 @@
 pub mod Areas
-pub mod Distances
 pub mod Figures
 pub mod Laws
 pub mod Moving

@@ -15,7 +15,7 @@ use Rattle.whole.specs.Nearest.{nearest, halfUp}
 use Rattle.whole.specs.declared.Whole.{Whole}
 use Rattle.whole.proofs.Ring.{ring, exps}
 use Rattle.whole.proofs.Rounding.{nearest-neg}
-use Rattle.answer.specs.Told.{Told, told, given, inRange}
+use Rattle.answer.specs.Told.{ToldStep, toldAmount, given, inRange}
 use Rattle.answer.specs.declared.Amount.{Amount}
 use Rattle.answer.specs.declared.Amount.the-variants as amount
 use Rattle.answer.proofs.Telling.{tells, refuses, value-given, both, not-second}
@@ -26,7 +26,7 @@ use Rattle.sines.specs.declared.Turned.{Turned}
 use Rattle.sines.specs.declared.Turned.the-variants as turn
 use Rattle.sines.proofs.Own.{Entries, sine-size, lent-entries}
 use Rattle.sines.proofs.Turns.{no-circle, in-circle, sine-most, cosine-most, sine-signed, cosine-signed}
-use Rattle.steps.specs.Course.{Axis, north, east, move, sineAlong, course, courseStep, toldOf}
+use Rattle.steps.specs.Course.{Axis, north, east, move, sineAlong, course, courseStep, toldMove}
 use Rattle.steps.specs.declared.course.Moves.{Moves}
 use Rattle.steps.specs.declared.course.Moves.the-variants.{Are, OutOfRange}
 use Rattle.steps.proofs.Laws.{product-most}
@@ -54,17 +54,17 @@ module _ (distance size : ℕ) where
 
 -- ---- what is told of a leg along an axis
 module _ (e : ℕ → ℤ) (axis : Axis) (distance azimuth : ℕ) where
-  pub too-long : 20100000 < distance → toldOf axis OutOfRange ≡ courseStep e axis distance azimuth
-  unfolding toldOf
+  pub too-long : 20100000 < distance → toldMove axis OutOfRange ≡ courseStep e axis distance azimuth
+  unfolding toldMove
   too-long h = rw (lt-leb distance 20100000 h)
 
   pub too-long-told : 20100000 < distance
-      → told amount.OutOfRange ≡ courseStep e axis distance azimuth
-  unfolding told
+      → toldAmount amount.OutOfRange ≡ courseStep e axis distance azimuth
+  unfolding toldAmount
   too-long-told h = rw (lt-leb distance 20100000 h)
 
-  pub no-azimuth : (r : Turned) → r ≡ turnedBy e azimuth → r ≡ turn.OutOfRange → toldOf axis OutOfRange ≡ courseStep e axis distance azimuth
-  unfolding toldOf
+  pub no-azimuth : (r : Turned) → r ≡ turnedBy e azimuth → r ≡ turn.OutOfRange → toldMove axis OutOfRange ≡ courseStep e axis distance azimuth
+  unfolding toldMove
   no-azimuth r g f = rw (le-ltb azimuth circle (no-circle e azimuth (sym f ∙ g)), not-second (leb distance 20100000) false refl)
 
 -- the sine that counts along an axis, by both sides of the azimuth
@@ -89,9 +89,9 @@ module _ (t : List ℕ) (azimuth : ℕ) (r : Turned) (s : Sides) (g : r ≡ turn
       rw (le-leb distance 20100000 h, lt-ltb azimuth circle (in-circle (entryIn t) (lent-entries t) azimuth s (sym f ∙ g)), m, side-is axis)
 
 -- ---- for a caller whose leg is in range: the move along an axis, as `north` or `east` gives it
-pub move-given : (e : ℕ → ℤ) (axis : Axis) (distance azimuth : ℕ) (r : Moves) → distance ≤ 20100000 → azimuth < circle → toldOf axis r ≡ courseStep e axis distance azimuth
-    → toldOf axis r .value ≡ course e axis distance azimuth
-move-given e axis distance azimuth r near within g = value-given (toldOf axis r) _ _ g (both _ _ (le-leb distance 20100000 near) (lt-ltb azimuth circle within))
+pub move-given : (e : ℕ → ℤ) (axis : Axis) (distance azimuth : ℕ) (r : Moves) → distance ≤ 20100000 → azimuth < circle → toldMove axis r ≡ courseStep e axis distance azimuth
+    → toldMove axis r .value ≡ course e axis distance azimuth
+move-given e axis distance azimuth r near within g = value-given (toldMove axis r) _ _ g (both _ _ (le-leb distance 20100000 near) (lt-ltb azimuth circle within))
 
 -- ---- one move by a sine that was told, which is its size with its sign
 signed : (z : ℤ) → turned (ltZ z (pos 0)) (pos (natAbs z)) ≡ z
@@ -100,22 +100,22 @@ signed (pos n) = rw (le-ltb n 0 (omega arith))
 signed (negsuc n) = refl
 
 -- where the sine was refused, so is the move
-abbrev moveTold : ℕ → Told → Told
+abbrev moveTold : ℕ → ToldStep → ToldStep
 moveTold distance sine = inRange (leb distance 20100000 && eqb (sine .number) 0) (move distance (sine .value))
 
 module _ (distance : ℕ) (s : Amount) where
-  pub no-sine : s ≡ amount.OutOfRange → told amount.OutOfRange ≡ moveTold distance (told s)
-  unfolding told
+  pub no-sine : s ≡ amount.OutOfRange → toldAmount amount.OutOfRange ≡ moveTold distance (toldAmount s)
+  unfolding toldAmount
   no-sine f = rw f (refuses _ _ (not-second (leb distance 20100000) false refl))
 
   module _ (w : Whole) (size : ℕ) (f : s ≡ amount.Is w) (g : size ≡ natAbs (w .v)) where
-    pub size-small : natAbs (told s .value) ≤ 1000000000 → size ≤ 1000000000
-    unfolding told
+    pub size-small : natAbs (toldAmount s .value) ≤ 1000000000 → size ≤ 1000000000
+    unfolding toldAmount
     size-small h = rw g (rw f at h)
 
     pub move-told : (v : Whole) (below : Bool) → v .v ≡ move distance (turned below (pos size)) → below ≡ ltZ (w .v) (pos 0) → distance ≤ 20100000
-        → told (amount.Is v) ≡ moveTold distance (told s)
-    unfolding told
+        → toldAmount (amount.Is v) ≡ moveTold distance (toldAmount s)
+    unfolding toldAmount
     move-told v below m b h = rw f (tells _ v _ (both _ _ (le-leb distance 20100000 h) refl) (m ∙ rw (b, g, signed (w .v))))
 
 -- no sine that counts along an axis is above 1
@@ -126,18 +126,18 @@ along-most e entries east azimuth h = sine-size e entries azimuth h
 
 -- and what a caller has who was told it
 module _ (e : ℕ → ℤ) (axis : Axis) (azimuth : ℕ) (s : Amount)
-    (g : told s ≡ ofAngle azimuth (sineAlong e axis azimuth)) where
-  pub along-small : Entries e → natAbs (told s .value) ≤ 1000000000
+    (g : toldAmount s ≡ ofAngle azimuth (sineAlong e axis azimuth)) where
+  pub along-small : Entries e → natAbs (toldAmount s .value) ≤ 1000000000
   along-small entries =
       elim (decLt azimuth circle) [
         | yes h ↦
-            rw (value-given (told s) _ _ g (lt-ltb azimuth circle h))
+            rw (value-given (toldAmount s) _ _ g (lt-ltb azimuth circle h))
             (along-most e entries axis azimuth h)
         | no h ↦ rw (g, le-ltb azimuth circle (omega arith)) (omega arith)
       ]
 
-  pub along-moved : (distance : ℕ) (r : Amount) → told r ≡ moveTold distance (told s)
-      → told r ≡ courseStep e axis distance azimuth
+  pub along-moved : (distance : ℕ) (r : Amount) → toldAmount r ≡ moveTold distance (toldAmount s)
+      → toldAmount r ≡ courseStep e axis distance azimuth
   along-moved distance r m = m ∙ rw g (by (ltb azimuth circle))
     where
       by : (b : Bool) → moveTold distance (inRange b (sineAlong e axis azimuth))

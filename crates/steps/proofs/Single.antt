@@ -4,7 +4,7 @@ use mathlib.Core.List.{List}
 use Prim.Native.Nat.{ℕ}
 use native.Mathlib.Omega.{arith}
 use lib.IntN.{ℤ}
-use Rattle.answer.specs.Told.{Told, told, toldCount, toldVerdict}
+use Rattle.answer.specs.Told.{ToldStep, toldAmount, toldCount, toldVerdict}
 use Rattle.answer.specs.declared.Amount.{Amount}
 use Rattle.answer.specs.declared.Count.{Count}
 use Rattle.answer.specs.declared.Verdict.{Verdict}
@@ -14,7 +14,7 @@ use Rattle.answer.proofs.Single.{amounts-coincide, counts-coincide, verdicts-co
 use Rattle.steps.specs.Distance.{seaLevelStep, combineStep, gridStep}
 use Rattle.steps.specs.Azimuth.{fromMarkStep, onwardStep, misclosureStep, misclosureTest, balancedStep}
 use Rattle.steps.specs.Share.{shareStep, angleShareStep}
-use Rattle.steps.specs.Course.{Axis, north as Axis·north, east as Axis·east, courseStep, toldOf}
+use Rattle.steps.specs.Course.{Axis, north as Axis·north, east as Axis·east, courseStep, toldMove}
 use Rattle.steps.specs.declared.course.Moves.{Moves}
 use Rattle.steps.specs.declared.course.Moves.the-variants.{Are, OutOfRange}
 use Rattle.steps.specs.Closure.{closureTest, precisionStep}
@@ -45,40 +45,40 @@ module _ (x y : Count) where
 
 -- `misclosure`, `share`, `angle_share` and `doubled_area`, and between them the moves
 module _ (x y : Amount) where
-  pub misclosure-single : (carried given : ℕ) → told x ≡ misclosureStep carried given → told y ≡ misclosureStep carried given → x ≡ y
+  pub misclosure-single : (carried given : ℕ) → toldAmount x ≡ misclosureStep carried given → toldAmount y ≡ misclosureStep carried given → x ≡ y
   misclosure-single carried given = amounts-coincide (misclosureStep carried given) x y
 
-  pub share-single : (closure : ℤ) (part whole : ℕ) → told x ≡ shareStep closure part whole → told y ≡ shareStep closure part whole → x ≡ y
+  pub share-single : (closure : ℤ) (part whole : ℕ) → toldAmount x ≡ shareStep closure part whole → toldAmount y ≡ shareStep closure part whole → x ≡ y
   share-single closure part whole = amounts-coincide (shareStep closure part whole) x y
 
-  pub angle-share-single : (w : ℤ) (j n : ℕ) → told x ≡ angleShareStep w j n → told y ≡ angleShareStep w j n → x ≡ y
+  pub angle-share-single : (w : ℤ) (j n : ℕ) → toldAmount x ≡ angleShareStep w j n → toldAmount y ≡ angleShareStep w j n → x ≡ y
   angle-share-single w j n = amounts-coincide (angleShareStep w j n) x y
 
   -- `latitude` is the axis north, `departure` the axis east; with the entries of a lent table, `latitude_in` and `departure_in`
-  pub course-single : (e : ℕ → ℤ) (axis : Axis) (distance azimuth : ℕ) → told x ≡ courseStep e axis distance azimuth → told y ≡ courseStep e axis distance azimuth
+  pub course-single : (e : ℕ → ℤ) (axis : Axis) (distance azimuth : ℕ) → toldAmount x ≡ courseStep e axis distance azimuth → toldAmount y ≡ courseStep e axis distance azimuth
       → x ≡ y
   course-single e axis distance azimuth = amounts-coincide (courseStep e axis distance azimuth) x y
 
-  pub doubled-area-single : (offsets : List ℤ) → told x ≡ areaStep offsets → told y ≡ areaStep offsets → x ≡ y
+  pub doubled-area-single : (offsets : List ℤ) → toldAmount x ≡ areaStep offsets → toldAmount y ≡ areaStep offsets → x ≡ y
   doubled-area-single offsets = amounts-coincide (areaStep offsets) x y
 
 -- `moves_in`: what is told along both axes
-pub moves-single : (e : ℕ → ℤ) (distance azimuth : ℕ) (x y : Moves) → ((axis : Axis) → toldOf axis x ≡ courseStep e axis distance azimuth)
-    → ((axis : Axis) → toldOf axis y ≡ courseStep e axis distance azimuth) → x ≡ y
-unfolding toldOf
+pub moves-single : (e : ℕ → ℤ) (distance azimuth : ℕ) (x y : Moves) → ((axis : Axis) → toldMove axis x ≡ courseStep e axis distance azimuth)
+    → ((axis : Axis) → toldMove axis y ≡ courseStep e axis distance azimuth) → x ≡ y
+unfolding toldMove
 moves-single e distance azimuth x y p q = one-moves x y (λ axis. p axis ∙ sym (q axis))
   where
-    one-moves : (x y : Moves) → ((axis : Axis) → toldOf axis x ≡ toldOf axis y) → x ≡ y
+    one-moves : (x y : Moves) → ((axis : Axis) → toldMove axis x ≡ toldMove axis y) → x ≡ y
     one-moves OutOfRange OutOfRange p = refl
-    one-moves OutOfRange (Are k l) p = absurd (omega (arith, ap (λ (z : Told). z .number) (p Axis·north)))
-    one-moves (Are m n) OutOfRange p = absurd (omega (arith, ap (λ (z : Told). z .number) (p Axis·north)))
+    one-moves OutOfRange (Are k l) p = absurd (omega (arith, ap (λ (z : ToldStep). z .number) (p Axis·north)))
+    one-moves (Are m n) OutOfRange p = absurd (omega (arith, ap (λ (z : ToldStep). z .number) (p Axis·north)))
     one-moves (Are m n) (Are k l) p =
-        ap (λ (v : ℤ). Are (record { v = v }) n) (ap (λ (z : Told). z .value) (p Axis·north)) ∙ ap (λ (v : ℤ). Are k (record { v = v })) (ap (λ (z : Told). z .value) (p Axis·east))
+        ap (λ (v : ℤ). Are (record { v = v }) n) (ap (λ (z : ToldStep). z .value) (p Axis·north)) ∙ ap (λ (v : ℤ). Are k (record { v = v })) (ap (λ (z : ToldStep). z .value) (p Axis·east))
 
 -- `Moves::north` and `Moves::east`, each along its axis
-pub move-single : (axis : Axis) (m : Moves) (x y : Whole) → x .v ≡ toldOf axis m .value
-    → y .v ≡ toldOf axis m .value → x ≡ y
-move-single axis m = whole-single (toldOf axis m .value)
+pub move-single : (axis : Axis) (m : Moves) (x y : Whole) → x .v ≡ toldMove axis m .value
+    → y .v ≡ toldMove axis m .value → x ≡ y
+move-single axis m = whole-single (toldMove axis m .value)
 
 -- `closes_angles` and `closes`
 module _ (x y : Verdict) where

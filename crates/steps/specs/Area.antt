@@ -7,7 +7,7 @@ use lib.ListN.{length, getD}
 use lib.IntN.{ℤ, pos, natAbs, _-ℤ_, _*ℤ_}
 use Rattle.whole.specs.Sum.{sumTo}
 use Rattle.answer.specs.Limit.{mostLegs}
-use Rattle.answer.specs.Told.{Told, inRange, inside}
+use Rattle.answer.specs.Told.{ToldStep, inRange, inside}
 
 -- a list of offsets holds northing, then easting, of each station
 abbrev pub northing : List ℤ → ℕ → ℤ
@@ -21,7 +21,8 @@ stations offsets = length offsets / 2
 
 -- N_i E_j - N_j E_i
 unfoldable pub cross : List ℤ → ℕ → ℕ → ℤ
-cross offsets i j = northing offsets i *ℤ easting offsets j -ℤ northing offsets j *ℤ easting offsets i
+cross offsets i j =
+    northing offsets i *ℤ easting offsets j -ℤ northing offsets j *ℤ easting offsets i
 
 -- the station after i, round to the first
 unfoldable pub nextStation : List ℤ → ℕ → ℕ
@@ -43,11 +44,12 @@ abbrev pub mostWords : ℕ
 mostWords = 2 * mostLegs
 
 -- ---- the step: "1 to 64 stations with offsets of size up to 130,000,000"
-unfoldable pub small : List ℤ → Bool
-small [] = true
-small (z ∷ zs) = leb (natAbs z) mostOffset && small zs
+unfoldable pub goodOffsets : List ℤ → Bool
+goodOffsets [] = true
+goodOffsets (z ∷ zs) = leb (natAbs z) mostOffset && goodOffsets zs
 
-abbrev pub areaStep : List ℤ → Told
+abbrev pub areaStep : List ℤ → ToldStep
 areaStep offsets =
-    inRange (inside 2 mostWords (length offsets) && eqb (length offsets % 2) 0 && small offsets)
+    inRange
+    (inside 2 mostWords (length offsets) && eqb (length offsets % 2) 0 && goodOffsets offsets)
     (doubled offsets)

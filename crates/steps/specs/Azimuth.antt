@@ -6,7 +6,7 @@ use Prim.Native.Nat.{ℕ, _+_, _-_, _*_, _%_, _<_}
 use lib.Dec.{leb, ltb}
 use lib.IntN.{ℤ, pos, negsuc, negℤ, natAbs, _+ℤ_, _-ℤ_, _*ℤ_}
 use Rattle.whole.specs.Order.{_≤ᶻ_, _<ᶻ_}
-use Rattle.answer.specs.Told.{Told, inRange, inside, passes}
+use Rattle.answer.specs.Told.{ToldStep, inRange, inside, passes}
 use Rattle.answer.specs.Limit.{mostLegs}
 use Rattle.minutes.specs.Quadrant.{circle}
 pub use Rattle.minutes.specs.Quadrant.{halfCircle}
@@ -62,21 +62,22 @@ balanced azimuth share = turn (pos azimuth -ℤ share)
 
 -- ---- the steps: "two azimuths or angles of 0..12,959,999", "n of 1..64 and W of size up to
 -- 6,480,000", "an azimuth of 0..12,959,999 and a share of size up to 6,480,000"
-abbrev pub ofAngles : ℕ → ℕ → ℤ → Told
+abbrev pub ofAngles : ℕ → ℕ → ℤ → ToldStep
 ofAngles a b z = inRange (ltb a circle && ltb b circle) z
 
-abbrev pub fromMarkStep : ℕ → ℕ → Told
+abbrev pub fromMarkStep : ℕ → ℕ → ToldStep
 fromMarkStep mark angle = ofAngles mark angle (pos (fromMark mark angle))
 
-abbrev pub onwardStep : ℕ → ℕ → Told
+abbrev pub onwardStep : ℕ → ℕ → ToldStep
 onwardStep before angle = ofAngles before angle (pos (onward before angle))
 
-abbrev pub misclosureStep : ℕ → ℕ → Told
+abbrev pub misclosureStep : ℕ → ℕ → ToldStep
 misclosureStep carried given = ofAngles carried given (misclosure carried given)
 
-abbrev pub misclosureTest : ℤ → ℕ → Told
+abbrev pub misclosureTest : ℤ → ℕ → ToldStep
 misclosureTest w n =
     inRange (leb (natAbs w) halfCircle && inside 1 mostLegs n) (passes (closesAngles w n))
 
-abbrev pub balancedStep : ℕ → ℤ → Told
-balancedStep azimuth share = inRange (ltb azimuth circle && leb (natAbs share) halfCircle) (pos (balanced azimuth share))
+abbrev pub balancedStep : ℕ → ℤ → ToldStep
+balancedStep azimuth share =
+    inRange (ltb azimuth circle && leb (natAbs share) halfCircle) (pos (balanced azimuth share))

@@ -5,7 +5,7 @@ use mathlib.Core.Bool.{Bool, cond, _&&_}
 use Prim.Native.Nat.{ℕ, zero, suc, _+_, _*_, _/_, _≤_}
 use lib.Dec.{leb, eqb}
 use lib.IntN.{ℤ, pos, natAbs}
-use Rattle.answer.specs.Told.{Told, inRange, inside, passes}
+use Rattle.answer.specs.Told.{ToldStep, inRange, inside, passes}
 
 -- C_N squared + C_E squared
 abbrev pub squares : ℤ → ℤ → ℕ
@@ -59,16 +59,16 @@ mostClosure = 26000
 
 -- ---- the steps: "S of 1..1,300,000,000, with closures of size up to 1,200,000,000 for the test
 -- and 26,000 for the number"
-abbrev pub ofClosures : ℕ → ℤ → ℤ → ℕ → ℤ → Told
+abbrev pub ofClosures : ℕ → ℤ → ℤ → ℕ → ℤ → ToldStep
 ofClosures most north east s z =
     inRange (leb (natAbs north) most && leb (natAbs east) most && inside 1 mostSum s) z
 
-abbrev pub closureTest : ℤ → ℤ → ℕ → Told
+abbrev pub closureTest : ℤ → ℤ → ℕ → ToldStep
 closureTest north east s = ofClosures mostTested north east s (passes (closes north east s))
 
-abbrev pub precisionStep : ℤ → ℤ → ℕ → Told
+abbrev pub precisionStep : ℤ → ℤ → ℕ → ToldStep
 precisionStep north east s = ofClosures mostClosure north east s (pos (precision north east s))
 
 -- the rule itself, of what is told: where that is no refusal, it is the largest P
-pub record PrecisionTold (north east : ℤ) (s : ℕ) (t : Told) : Type 0 where
+pub record PrecisionTold (north east : ℤ) (s : ℕ) (t : ToldStep) : Type 0 where
   pub largest : t .number ≡ 0 → Precision north east s (natAbs (t .value))

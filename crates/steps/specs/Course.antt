@@ -6,7 +6,7 @@ use lib.Dec.{leb, ltb}
 use lib.IntN.{ℤ, pos, negℤ, _*ℤ_}
 use Rattle.whole.specs.Nearest.{nearest}
 use Rattle.answer.specs.Refusal.{outOfRange}
-use Rattle.answer.specs.Told.{Told, given, refused, inRange}
+use Rattle.answer.specs.Told.{ToldStep, given, refused, inRange}
 use Rattle.minutes.specs.Quadrant.{circle}
 use Rattle.sines.specs.Sine.{sineBy, cosineBy}
 use Rattle.steps.specs.declared.course.Moves.{Moves}
@@ -41,14 +41,14 @@ mostGrid = 20100000
 
 -- ---- the steps: "a grid distance of 0..20,100,000 and an azimuth or angle of 0..12,959,999"; by
 -- the entries of the desk's own table, or of a lent one
-abbrev pub ofLeg : ℕ → ℕ → ℤ → Told
+abbrev pub ofLeg : ℕ → ℕ → ℤ → ToldStep
 ofLeg distance azimuth z = inRange (leb distance mostGrid && ltb azimuth circle) z
 
-abbrev pub courseStep : (ℕ → ℤ) → Axis → ℕ → ℕ → Told
+abbrev pub courseStep : (ℕ → ℤ) → Axis → ℕ → ℕ → ToldStep
 courseStep e axis distance azimuth = ofLeg distance azimuth (course e axis distance azimuth)
 
 -- ---- both moves of a leg at once: what is told along each axis
-unfoldable pub toldOf : Axis → Moves → Told
-toldOf axis OutOfRange = refused outOfRange 0
-toldOf north (Are n e) = given (n .v)
-toldOf east (Are n e) = given (e .v)
+unfoldable pub toldMove : Axis → Moves → ToldStep
+toldMove axis OutOfRange = refused outOfRange 0
+toldMove north (Are n e) = given (n .v)
+toldMove east (Are n e) = given (e .v)

@@ -7,7 +7,7 @@ use lib.Signed.{leZ}
 use Rattle.whole.specs.Nearest.{halfUp}
 use Rattle.answer.specs.Limit.{leastFactor, mostFactor, leastDistance, mostDistance}
 use Rattle.answer.specs.Limit.{lowest, highest}
-use Rattle.answer.specs.Told.{Told, inRange, inside}
+use Rattle.answer.specs.Told.{ToldStep, inRange, inside}
 
 -- "factors in ten-millionths": a factor of 1
 abbrev pub unitFactor : ℕ
@@ -39,17 +39,17 @@ mostCombined = 10020010
 
 -- ---- the steps: "an elevation of -1,000..20,000", "two factors of 9,990,000..10,010,000", "a
 -- distance of 1,000..20,000,000 and a combined factor of 9,980,000..10,020,010"
-abbrev pub seaLevelStep : ℤ → Told
+abbrev pub seaLevelStep : ℤ → ToldStep
 seaLevelStep elevation =
     inRange (leZ (negℤ (pos lowest)) elevation && leZ elevation (pos highest))
     (pos (seaLevel elevation))
 
-abbrev pub combineStep : ℕ → ℕ → Told
+abbrev pub combineStep : ℕ → ℕ → ToldStep
 combineStep sea scale =
     inRange (inside leastFactor mostFactor sea && inside leastFactor mostFactor scale)
     (pos (combine sea scale))
 
-abbrev pub gridStep : ℕ → ℕ → Told
+abbrev pub gridStep : ℕ → ℕ → ToldStep
 gridStep distance factor =
     inRange (inside leastDistance mostDistance distance && inside leastCombined mostCombined factor)
     (pos (grid distance factor))

@@ -8,10 +8,10 @@ ghost use Prim.Native.Nat.{_+_, _*_, _%_, _<_, _≤_};
 ghost use lib.Dec.{leb};
 ghost use lib.ListN.{length, getD};
 ghost use lib.IntN.{pos, natAbs};
-ghost use Rattle.answer.specs.Told.{told};
+ghost use Rattle.answer.specs.Told.{toldAmount};
 ghost use Rattle.answer.specs.Limit.{mostLegs};
-ghost use Rattle.steps.specs.Area.{mostOffset};
-ghost use Rattle.steps.specs.Area.{northing, easting, areaStep, cross as Area·cross, doubled, small};
+ghost use Rattle.steps.specs.Area.{mostOffset, goodOffsets, northing, easting};
+ghost use Rattle.steps.specs.Area.{cross as Area·cross, doubled, areaStep};
 
 // "offsets of size up to 130,000,000", in hundredths of a foot: the most.
 const MOST_OFFSET: i64 = 130_000_000;
@@ -54,9 +54,9 @@ fn near(offsets: &[i64], i: usize) -> bool
 }
 
 // Whether every offset of n stations is within its range.
-fn all_small(offsets: &[i64], n: usize) -> bool
+fn good_offsets(offsets: &[i64], n: usize) -> bool
     requires { ⌜ 2 * n ≡ length (now offsets) ⌝ }
-    ensures { λ r. ⌜ r ≡ small (now (offsets .entry)) ⌝ }
+    ensures { λ r. ⌜ r ≡ goodOffsets (now (offsets .entry)) ⌝ }
 {
     let mut i: usize = 0;
     while i < n {
@@ -70,7 +70,7 @@ fn all_small(offsets: &[i64], n: usize) -> bool
 
 // An offset that is known to be within its range.
 fn offset(offsets: &[i64], at: usize) -> Whole
-    requires { ⌜ small (now offsets) ≡ true ⌝ }
+    requires { ⌜ goodOffsets (now offsets) ≡ true ⌝ }
     requires { ⌜ at < length (now offsets) ⌝ }
     ensures is { λ r. ⌜ r .v ≡ getD (now (offsets .entry)) at (pos 0) ⌝ }
     ensures size { λ r. ⌜ natAbs (r .v) ≤ mostOffset ⌝ }
@@ -80,7 +80,7 @@ fn offset(offsets: &[i64], at: usize) -> Whole
 
 // Twice the area of the triangle that stations i and j make with the origin.
 fn cross(offsets: &[i64], i: usize, j: usize) -> Whole
-    requires { ⌜ small (now offsets) ≡ true ⌝ }
+    requires { ⌜ goodOffsets (now offsets) ≡ true ⌝ }
     requires { ⌜ (2 * i + 1 < length (now offsets)) × (2 * j + 1 < length (now offsets)) ⌝ }
     ensures is { λ r. ⌜ r .v ≡ Area·cross (now (offsets .entry)) i j ⌝ }
     ensures size { λ r. ⌜ natAbs (r .v) ≤ 2 * mostOffset * mostOffset ⌝ }
@@ -90,7 +90,8 @@ fn cross(offsets: &[i64], i: usize, j: usize) -> Whole
     ahead.minus(back)
 }
 
-// The station after i, round to the first: compared, since a division for each station would cost more than the rest of the sum.
+// The station after i, round to the first. It is compared, since a division for each station would
+// cost more than the rest of the sum.
 fn next(i: usize, n: usize) -> usize
     requires { ⌜ i < n ⌝ }
     ensures { λ r. ⌜ r ≡ (i + 1) % n ⌝ }
@@ -103,7 +104,7 @@ fn next(i: usize, n: usize) -> usize
 
 // The sum round the stations.
 fn round(offsets: &[i64], n: usize) -> Whole
-    requires { ⌜ small (now offsets) ≡ true ⌝ }
+    requires { ⌜ goodOffsets (now offsets) ≡ true ⌝ }
     requires { ⌜ (2 * n ≡ length (now offsets)) × (0 < n) × (n ≤ mostLegs) ⌝ }
     ensures { λ r. ⌜ r .v ≡ doubled (now (offsets .entry)) ⌝ }
 {
@@ -118,7 +119,7 @@ fn round(offsets: &[i64], n: usize) -> Whole
 
 // The doubled area of 1 to 64 stations.
 pub fn doubled_area(offsets: &[i64]) -> Amount
-    ensures { λ r. ⌜ told r ≡ areaStep (now (offsets .entry)) ⌝ }
+    ensures { λ r. ⌜ toldAmount r ≡ areaStep (now (offsets .entry)) ⌝ }
 {
     let words = offsets.len();
     if words < 2 {
@@ -131,7 +132,7 @@ pub fn doubled_area(offsets: &[i64]) -> Amount
         return Amount::OutOfRange;
     }
     let n = words / 2;
-    if all_small(offsets, n) {
+    if good_offsets(offsets, n) {
         return Amount::Is(round(offsets, n));
     }
     Amount::OutOfRange

@@ -1,4 +1,5 @@
-// Azimuths, clockwise from south, in tenths of a second: carried along the legs, closed on the given one, and balanced.
+// Azimuths, clockwise from south, in tenths of a second: carried along the legs, closed on the given
+// one, and balanced.
 use crate::wide;
 use answer::Amount;
 use answer::Count;
@@ -8,9 +9,10 @@ use minutes::quadrant::HALF_CIRCLE;
 use whole::Whole;
 ghost use mathlib.Core.Path.{_≡_};
 ghost use Prim.Native.Nat.{_*_, _%_, _<_};
-ghost use Rattle.answer.specs.Told.{told, toldCount, toldVerdict};
+ghost use Rattle.answer.specs.Told.{toldAmount, toldCount, toldVerdict};
 ghost use Rattle.minutes.specs.Quadrant.{circle};
-ghost use Rattle.steps.specs.Azimuth.{fromMarkStep, onwardStep, misclosureStep, misclosureTest, balancedStep};
+ghost use Rattle.steps.specs.Azimuth.{fromMarkStep, onwardStep, misclosureStep};
+ghost use Rattle.steps.specs.Azimuth.{misclosureTest, balancedStep};
 
 // Two whole turns, in tenths of a second.
 const TWO_CIRCLES: u32 = 2 * CIRCLE;
@@ -18,7 +20,8 @@ const TWO_CIRCLES: u32 = 2 * CIRCLE;
 // "Refused (8) exactly when its size exceeds 100 x (n+1)": the tenths that each angle may be off.
 const MOST_PER_ANGLE: u64 = 100;
 
-// A sum of less than three circles, modulo the circle. It is compared and not divided: along the legs each azimuth waits for the one before it.
+// A sum of less than three circles, modulo the circle. It is compared and not divided: along the
+// legs each azimuth waits for the one before it.
 fn modulo(sum: u32) -> u32
     requires { ⌜ sum < 3 * circle ⌝ }
     ensures { λ r. ⌜ r ≡ sum % circle ⌝ }
@@ -45,7 +48,8 @@ pub fn from_mark(mark: u32, angle: u32) -> Count
     Count::Is(modulo(mark + angle) as u64)
 }
 
-// The azimuth of each next leg, and the closing azimuth, from the azimuth before and the angle right there.
+// The azimuth of each next leg, and the closing azimuth, from the azimuth before and the angle right
+// there.
 pub fn onward(before: u32, angle: u32) -> Count
     ensures { λ r. ⌜ toldCount r ≡ onwardStep before angle ⌝ }
 {
@@ -60,7 +64,7 @@ pub fn onward(before: u32, angle: u32) -> Count
 
 // The angular misclosure: carried less given, the short way round.
 pub fn misclosure(carried: u32, given: u32) -> Amount
-    ensures { λ r. ⌜ told r ≡ misclosureStep carried given ⌝ }
+    ensures { λ r. ⌜ toldAmount r ≡ misclosureStep carried given ⌝ }
 {
     if CIRCLE <= carried {
         return Amount::OutOfRange;

@@ -1,4 +1,5 @@
-// The closure test and the precision number. Closures are in hundredths, the sum s of grid distances in thousandths of a foot.
+// The closure test and the precision number. Closures are in hundredths, the sum s of grid distances
+// in thousandths of a foot.
 use crate::root;
 use answer::Count;
 use answer::Verdict;
@@ -61,8 +62,8 @@ pub fn closes(north: Whole, east: Whole, s: u64) -> Verdict
     Verdict::Fails
 }
 
-// The precision number: 1 in so many parts of the distance. The promise states the rule as
-// well as the number that it names.
+// The precision number P: the closure is 1 part in P of the distance. The promise states the rule
+// as well as the number that it names.
 pub fn precision(north: Whole, east: Whole, s: u64) -> Count
     ensures rule { λ r. ⌜ PrecisionTold (north .v) (east .v) s (toldCount r) ⌝ }
     ensures is { λ r. ⌜ toldCount r ≡ precisionStep (north .v) (east .v) s ⌝ }

@@ -1,4 +1,5 @@
-// Latitude and departure: how far a leg moves north and east, in hundredths of a foot. Azimuths run from south, hence the minus signs.
+// Latitude and departure: how far a leg moves north and east, in hundredths of a foot. Azimuths run
+// from south, hence the minus signs.
 use answer::Amount;
 use minutes::ENTRIES;
 use sines::Turned;
@@ -8,13 +9,13 @@ ghost use mathlib.Core.Bool.{_&&_};
 ghost use Prim.Native.Nat.{_≤_};
 ghost use lib.Dec.{eqb, leb};
 ghost use lib.IntN.{pos, natAbs};
-ghost use Rattle.answer.specs.Told.{told, inRange};
+ghost use Rattle.answer.specs.Told.{toldAmount, inRange};
 ghost use Rattle.minutes.specs.Exact.{nineDecimals};
 ghost use Rattle.minutes.specs.Quadrant.{turned};
 ghost use Rattle.minutes.specs.Entry.{entry};
 ghost use Rattle.sines.specs.Sine.{entryIn};
-ghost use Rattle.steps.specs.Course.{mostGrid};
-ghost use Rattle.steps.specs.Course.{north as Course·north, east as Course·east, move as Course·move, courseStep, toldOf};
+ghost use Rattle.steps.specs.Course.{north as Course·north, east as Course·east};
+ghost use Rattle.steps.specs.Course.{mostGrid, move as Course·move, courseStep, toldMove};
 
 // "a grid distance of 0..20,100,000", in thousandths of a foot
 const MOST_GRID: u64 = 20_100_000;
@@ -29,10 +30,11 @@ pub enum Moves {
     Are { north: Whole, east: Whole },
 }
 
-// The move that is told along an axis, which is zero on a refusal: for a caller whose leg is in range.
+// The move that is told along an axis, which is zero on a refusal: for a caller whose leg is in
+// range.
 impl Moves {
     pub fn north(self) -> Whole
-        ensures { λ r. ⌜ r .v ≡ toldOf Course·north self .value ⌝ }
+        ensures { λ r. ⌜ r .v ≡ toldMove Course·north self .value ⌝ }
     {
         match self {
             Moves::OutOfRange => Whole { v: 0 },
@@ -41,7 +43,7 @@ impl Moves {
     }
 
     pub fn east(self) -> Whole
-        ensures { λ r. ⌜ r .v ≡ toldOf Course·east self .value ⌝ }
+        ensures { λ r. ⌜ r .v ≡ toldMove Course·east self .value ⌝ }
     {
         match self {
             Moves::OutOfRange => Whole { v: 0 },
@@ -50,7 +52,8 @@ impl Moves {
     }
 }
 
-// How far a distance moves along an axis, by the size of the sine that counts there and its sign: the size is rounded, and the opposite sign put on.
+// How far a distance moves along an axis, by the size of the sine that counts there and its sign:
+// the size is rounded, and the opposite sign put on.
 fn move_by(distance: u64, size: u32, negative: bool) -> Whole
     requires { ⌜ distance ≤ mostGrid ⌝ }
     requires { ⌜ size ≤ nineDecimals ⌝ }
@@ -65,8 +68,10 @@ fn move_by(distance: u64, size: u32, negative: bool) -> Whole
 
 // The latitude of a leg by the cosine in a lent table, and its departure by the sine.
 pub fn moves_in(table: &[u32; ENTRIES], distance: u64, azimuth: u32) -> Moves
-    ensures is_north { λ r. ⌜ toldOf Course·north r ≡ courseStep (entryIn (now (table .entry))) Course·north distance azimuth ⌝ }
-    ensures is_east { λ r. ⌜ toldOf Course·east r ≡ courseStep (entryIn (now (table .entry))) Course·east distance azimuth ⌝ }
+    ensures is_north { λ r. ⌜ toldMove Course·north r
+        ≡ courseStep (entryIn (now (table .entry))) Course·north distance azimuth ⌝ }
+    ensures is_east { λ r. ⌜ toldMove Course·east r
+        ≡ courseStep (entryIn (now (table .entry))) Course·east distance azimuth ⌝ }
 {
     if MOST_GRID < distance {
         return Moves::OutOfRange;
@@ -80,12 +85,12 @@ pub fn moves_in(table: &[u32; ENTRIES], distance: u64, azimuth: u32) -> Moves
     }
 }
 
-// One of them, by the one sine that counts.
+// The latitude or the departure of a leg, by the one sine that counts.
 fn moved(distance: u64, sine: Amount) -> Amount
-    requires { ⌜ natAbs (told sine .value) ≤ nineDecimals ⌝ }
-    ensures { λ r. ⌜ told r
-        ≡ inRange (leb distance mostGrid && eqb (told sine .number) 0)
-        (Course·move distance (told sine .value)) ⌝ }
+    requires { ⌜ natAbs (toldAmount sine .value) ≤ nineDecimals ⌝ }
+    ensures { λ r. ⌜ toldAmount r
+        ≡ inRange (leb distance mostGrid && eqb (toldAmount sine .number) 0)
+        (Course·move distance (toldAmount sine .value)) ⌝ }
 {
     if MOST_GRID < distance {
         return Amount::OutOfRange;
@@ -96,21 +101,26 @@ fn moved(distance: u64, sine: Amount) -> Amount
     }
 }
 
+// The latitude of a leg, by the cosine in a lent table.
 pub fn latitude_in(table: &[u32; ENTRIES], distance: u64, azimuth: u32) -> Amount
-    ensures { λ r. ⌜ told r ≡ courseStep (entryIn (now (table .entry))) Course·north distance azimuth ⌝ }
+    ensures { λ r. ⌜ toldAmount r
+        ≡ courseStep (entryIn (now (table .entry))) Course·north distance azimuth ⌝ }
 {
     moved(distance, sines::cosine_in(table, azimuth))
 }
 
+// The departure of a leg, by the sine in a lent table.
 pub fn departure_in(table: &[u32; ENTRIES], distance: u64, azimuth: u32) -> Amount
-    ensures { λ r. ⌜ told r ≡ courseStep (entryIn (now (table .entry))) Course·east distance azimuth ⌝ }
+    ensures { λ r. ⌜ toldAmount r
+        ≡ courseStep (entryIn (now (table .entry))) Course·east distance azimuth ⌝ }
 {
     moved(distance, sines::sine_in(table, azimuth))
 }
 
-// By the desk's own table. The distance is tried first, so that a leg out of range lays out none.
+// The latitude by the desk's own table. The distance is tested first, so that a leg out of range
+// lays out none.
 pub fn latitude(distance: u64, azimuth: u32) -> Amount
-    ensures { λ r. ⌜ told r ≡ courseStep entry Course·north distance azimuth ⌝ }
+    ensures { λ r. ⌜ toldAmount r ≡ courseStep entry Course·north distance azimuth ⌝ }
 {
     if MOST_GRID < distance {
         return Amount::OutOfRange;
@@ -118,8 +128,9 @@ pub fn latitude(distance: u64, azimuth: u32) -> Amount
     moved(distance, sines::cosine(azimuth))
 }
 
+// The departure by the desk's own table.
 pub fn departure(distance: u64, azimuth: u32) -> Amount
-    ensures { λ r. ⌜ told r ≡ courseStep entry Course·east distance azimuth ⌝ }
+    ensures { λ r. ⌜ toldAmount r ≡ courseStep entry Course·east distance azimuth ⌝ }
 {
     if MOST_GRID < distance {
         return Amount::OutOfRange;

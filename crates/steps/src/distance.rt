@@ -1,4 +1,5 @@
-// From a measured distance to a grid distance: factors in ten-millionths, distances in thousandths of a foot.
+// From a measured distance to a grid distance: factors in ten-millionths, distances in thousandths
+// of a foot.
 use crate::wide;
 use answer::Count;
 use answer::limit::HIGHEST;

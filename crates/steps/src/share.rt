@@ -1,4 +1,5 @@
-// The one share rule, for seconds and for feet: the share of a total at a part of a whole, so that the last share is the whole total.
+// The one share rule, for seconds and for feet: the share of a total at a part of a whole, so that
+// the last share is the whole total.
 use crate::closure::MOST_CLOSURE;
 use crate::closure::MOST_SUM;
 use crate::wide;
@@ -7,12 +8,12 @@ use whole::Whole;
 ghost use mathlib.Core.Path.{_≡_};
 ghost use Prim.Native.Nat.{_+_, _≤_, _<_};
 ghost use lib.IntN.{natAbs};
-ghost use Rattle.answer.specs.Told.{told};
+ghost use Rattle.answer.specs.Told.{toldAmount};
 ghost use Rattle.minutes.specs.Quadrant.{halfCircle};
 ghost use Rattle.steps.specs.Closure.{mostSum};
 ghost use Rattle.steps.specs.Share.{share as Share·share, shareStep, angleShareStep};
 
-// By the total's size, whose sign is put back: so the sign is looked at once, and the size is the one that the callers tested.
+// The share of a total at a part of a whole. The total's size is shared, and its sign put back.
 fn share_of(total: Whole, part: u64, whole: u64) -> Whole
     requires { ⌜ natAbs (total .v) ≤ halfCircle ⌝ }
     requires { ⌜ part ≤ whole ⌝ }
@@ -26,9 +27,10 @@ fn share_of(total: Whole, part: u64, whole: u64) -> Whole
     size
 }
 
-// The share of a closure at a station: the part is the distance run so far, the whole the sum of grid distances.
+// The share of a closure at a station: the part is the distance run so far, the whole the sum of
+// grid distances.
 pub fn share(closure: Whole, part: u64, whole: u64) -> Amount
-    ensures { λ r. ⌜ told r ≡ shareStep (closure .v) part whole ⌝ }
+    ensures { λ r. ⌜ toldAmount r ≡ shareStep (closure .v) part whole ⌝ }
 {
     if MOST_CLOSURE < closure.size() {
         return Amount::OutOfRange;
@@ -47,7 +49,7 @@ pub fn share(closure: Whole, part: u64, whole: u64) -> Amount
 
 // The share of a misclosure at the j-th of n + 1 angles.
 pub fn angle_share(w: Whole, j: u64, n: u64) -> Amount
-    ensures { λ r. ⌜ told r ≡ angleShareStep (w .v) j n ⌝ }
+    ensures { λ r. ⌜ toldAmount r ≡ angleShareStep (w .v) j n ⌝ }
 {
     if wide::HALF_CIRCLE < w.size() {
         return Amount::OutOfRange;

@@ -18,7 +18,7 @@ use Rattle.whole.specs.Order.{_≤ᶻ_, _<ᶻ_}
 use Rattle.whole.proofs.Diff.{int}
 use Rattle.records.specs.Bytes.{Width, two, four, size, num, bytes, Coding, unsigned}
 use Rattle.records.specs.Bytes.{twosComplement, room, meant, written}
-use Rattle.records.specs.Record.{Field, Kind, Rec, table, look, fieldsOf, total, numbers, inRanges}
+use Rattle.records.specs.Record.{Field, Kind, Rec, table, look, kindFields, total, numbers, inRanges}
 use Rattle.records.specs.Record.{spell, bodyOf, goodOf, bytesOf, numbersOf}
 use Rattle.tape.specs.Tape.{Next, walk, stepOf, judge, start, readingOf, recordsFrom}
 use Rattle.tape.specs.Tape.{recordsOf, tapeOf, runOf, fieldsRead}
@@ -159,14 +159,14 @@ past (x ∷ p) l = past p l
 
 -- a record whose numbers are in range, with anything behind it
 module _ (k : ℕ) (vs : List ℤ) (l : List ℕ) (good : goodOf k vs ≡ true) where
-  pub length-body : length (spell (fieldsOf k) vs) ≡ bodyOf k
+  pub length-body : length (spell (kindFields k) vs) ≡ bodyOf k
   unfolding bodyOf goodOf
-  length-body = length-spell (fieldsOf k) vs good
+  length-body = length-spell (kindFields k) vs good
 
   pub numbers-back : numbersOf k (bytesOf k vs ++ l) ≡ vs
-  unfolding numbersOf bytesOf goodOf fieldsOf
+  unfolding numbersOf bytesOf goodOf kindFields
   numbers-back =
-      numbers-drop (fieldsOf k) 1 (bytesOf k vs ++ l) 0 ∙ numbers-spell (fieldsOf k) vs l
+      numbers-drop (kindFields k) 1 (bytesOf k vs ++ l) 0 ∙ numbers-spell (kindFields k) vs l
       (look-fits table k table-fits) good
 
   step-back : (st : State) → stepOf st (bytesOf k vs ++ l) ≡ judge st k true vs
@@ -179,14 +179,14 @@ module _ (k : ℕ) (vs : List ℤ) (l : List ℕ) (good : goodOf k vs ≡ true) 
       → walk st at 0 (bytesOf k vs ++ l) ≡ walk st′ (at + 1 + bodyOf k) 0 l
   unfolding walk bytesOf
   walk-back st st′ at e =
-      rw (step-back st, ← e, ← length-body) (past (spell (fieldsOf k) vs) l .0 st′ _)
+      rw (step-back st, ← e, ← length-body) (past (spell (kindFields k) vs) l .0 st′ _)
 
   records-back : recordsFrom 0 (bytesOf k vs ++ l) ≡ record {
     kind = k;
     values = vs;
   } ∷ recordsFrom 0 l
   unfolding recordsFrom bytesOf
-  records-back = rw (numbers-back, ← length-body, past (spell (fieldsOf k) vs) l .1)
+  records-back = rw (numbers-back, ← length-body, past (spell (kindFields k) vs) l .1)
 
 -- ---- the tape
 back-from : (rs : List Rec) (st : State) (at : ℕ) (a : State) → runOf st at rs ≡ Reads a

@@ -13,7 +13,7 @@ use Rattle.records.specs.Record.{rowKind, projectKind, startKind, closeKind}
 use Rattle.tape.specs.Tape.{atRows, afterProject, lineBegun, afterLeg, closed, isLeg}
 use Rattle.answer.specs.Limit.{mostLegs}
 use Rattle.tape.specs.Tape.{mostRows, mayCome, roomOf, inPhase, withRow, withLeg}
-use Rattle.tape.specs.Tape.{Step, Next, Stop, rowNext, projectNext, firstOf, afterOf, judge}
+use Rattle.tape.specs.Tape.{Step, Next, Stop, rowNext, projectNext, minuteOf, afterOf, judge}
 use Rattle.tape.specs.Passing.{InLine}
 use Rattle.tape.specs.declared.State.{State}
 use Rattle.whole.proofs.Branch.{by-test, either, left}
@@ -38,8 +38,8 @@ pub data Due (st : State) (k : ℕ) : Type 0 where
 -- a record of kind k with the numbers vs, taken in the state st, leads to u
 pub data Came (st : State) (k : ℕ) (vs : List ℤ) (u : State) : Type 0 where
   row : k ≡ rowKind → st .phase ≡ atRows → st .rows < mostRows
-      → (0 < st .rows → firstOf vs ≡ st .next) → u ≡ withRow st (firstOf vs) → Came st k vs u
-  project : k ≡ projectKind → st .phase ≡ atRows → In st (firstOf vs)
+      → (0 < st .rows → minuteOf vs ≡ st .next) → u ≡ withRow st (minuteOf vs) → Came st k vs u
+  project : k ≡ projectKind → st .phase ≡ atRows → In st (minuteOf vs)
       → u ≡ inPhase afterProject st → Came st k vs u
   start : k ≡ startKind → st .phase ≡ afterProject → u ≡ inPhase lineBegun st → Came st k vs u
   leg : isLeg k ≡ true → InLine st → st .legs < mostLegs → u ≡ withLeg st → Came st k vs u
@@ -86,12 +86,12 @@ module _ (st : State) (k : ℕ) where
     came-due : Due st k → To (afterOf st k vs)
     unfolding afterOf rowNext projectNext
     came-due (row e p low) n =
-        by-test To (eqb (st .rows) 0 || eqb (firstOf vs) (st .next))
+        by-test To (eqb (st .rows) 0 || eqb (minuteOf vs) (st .next))
         (λ t n. row e p low (λ h. eqb-true _ _ (rw (ne-eqb (st .rows) 0 (omega arith)) at t)) cc)
         (λ t. stopped)
         (rw e at n)
     came-due (project e p) n =
-        let m = firstOf vs in
+        let m = minuteOf vs in
         by-test To (ltb m (st .next) && leb (st .next - m) (st .rows))
         (λ t n. let i = and-eq-true-iff (ltb m (st .next)) _ .0 t in
         let under = leb-true (st .next - m) (st .rows) (i .1) in

@@ -5,8 +5,6 @@ pub mod Longest
 pub mod Numbers
 pub mod OneRow
 pub mod Ordered
-pub mod Parts
-pub mod Passing
 pub mod Picks
 pub mod Ranges
 pub mod Refusals

@@ -13,7 +13,7 @@ use lib.IntN.{ℤ}
 use lib.ListN.{length, length-append, List·getD-append}
 use borrow.Author.Tests.{lt-ltb}
 use Rattle.records.specs.Bytes.{Width, two, four, size, num}
-use Rattle.records.specs.Record.{Field, table, fieldsOf, total, numbers, numbersOf, bodyOf}
+use Rattle.records.specs.Record.{Field, table, kindFields, total, numbers, numbersOf, bodyOf}
 use Rattle.answer.specs.Limit.{mostLegs}
 use Rattle.tape.specs.Tape.{mostRows, atRows, afterProject, lineBegun, afterLeg}
 use Rattle.tape.specs.Tape.{Step, Next, Stop, isLeg, mayCome, roomOf, takeOf, judge, stepOf}
@@ -54,12 +54,12 @@ module _ (st : State) (k : ℕ) where
   line-ahead = ⊎-elim (λ p. rw p) (λ p. rw p)
 
   leg-body : isLeg k ≡ true → bodyOf k < legBytes
-  unfolding bodyOf fieldsOf table
+  unfolding bodyOf kindFields table
   leg-body t = by-leg (λ k. bodyOf k < legBytes) (omega arith) k t
 
   -- a record that may come and has room is among them
   due-ahead : Due st k → bodyOf k < ahead st
-  unfolding aheadIn bodyOf fieldsOf table
+  unfolding aheadIn bodyOf kindFields table
   due-ahead (by.row e p low) = rw (e, p) (omega arith)
   due-ahead (by.project e p) = rw (e, p) (omega arith)
   due-ahead (by.start e p) = rw (e, p) (omega arith)
@@ -68,7 +68,7 @@ module _ (st : State) (k : ℕ) where
 
   -- and so are the most that can be taken after it
   came-ahead : (vs : List ℤ) (u : State) → Came st k vs u → bodyOf k + ahead u < ahead st
-  unfolding aheadIn bodyOf fieldsOf table
+  unfolding aheadIn bodyOf kindFields table
   came-ahead vs u (by.row e p low follows to) = rw (e, p, to) (omega arith)
   came-ahead vs u (by.project e p i to) = rw (e, p, to) (omega arith)
   came-ahead vs u (by.start e p to) = rw (e, p, to) (omega arith)
@@ -116,7 +116,7 @@ step-more st x l r h =
       o,
       lt-ltb (bodyOf x) (length (x ∷ l)) (omega arith),
       lt-ltb (bodyOf x) (length (x ∷ l ++ r)) (omega (arith, length-append l r)),
-      numbers-more (fieldsOf x) (x ∷ l) r 1 (omega arith),
+      numbers-more (kindFields x) (x ∷ l) r 1 (omega arith),
     ))
     (λ o. rw (m, o)))
     (λ m. rw m)

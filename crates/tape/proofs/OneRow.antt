@@ -13,7 +13,7 @@ use lib.ListN.{length}
 use borrow.Author.Tests.{eqb-true, eq-eqb}
 use Rattle.records.specs.Record.{Rec, rowKind}
 use Rattle.tape.specs.Tape.{start, recordsOf}
-use Rattle.tape.specs.Fields.{number, isRow, scaleOf, picked, fieldsOf, DoesRead}
+use Rattle.tape.specs.Fields.{numberAt, isRow, scaleOf, picked, fieldsOf, DoesRead}
 use Rattle.tape.specs.declared.State.{State}
 use Rattle.tape.proofs.Coming.{In, Came, came}
 use Rattle.tape.proofs.Coming as by
@@ -31,19 +31,19 @@ rowsOf m (r ∷ rs) = cond (isRow m r) (r ∷ rowsOf m rs) (rowsOf m rs)
 pub record OneRow (m : ℕ) (rs : List Rec) : Type 0 where
   pub row : Rec
   pub only : rowsOf m rs ≡ row ∷ []
-  pub scale : scaleOf m rs ≡ number row 1
+  pub scale : scaleOf m rs ≡ numberAt row 1
 
 -- ---- the test of a row, and what it tells
 module _ (m : ℕ) (r : Rec) where
   row-test : Row m (r .kind) (r .values) → isRow m r ≡ true
   unfolding isRow
-  row-test h = rw (eq-eqb (r .kind) rowKind (h .0), eq-eqb (number r 0) m (h .1))
+  row-test h = rw (eq-eqb (r .kind) rowKind (h .0), eq-eqb (numberAt r 0) m (h .1))
 
   test-row : isRow m r ≡ true → Row m (r .kind) (r .values)
   unfolding isRow
   test-row t =
-      let i = and-eq-true-iff (eqb (r .kind) rowKind) (eqb (number r 0) m) .0 t in
-      (eqb-true (r .kind) rowKind (i .0), eqb-true (number r 0) m (i .1))
+      let i = and-eq-true-iff (eqb (r .kind) rowKind) (eqb (numberAt r 0) m) .0 t in
+      (eqb-true (r .kind) rowKind (i .0), eqb-true (numberAt r 0) m (i .1))
 
 -- ---- a minute that is held does not come again
 not-again : {st u : State} {k : ℕ} {vs : List ℤ} (m : ℕ) → Came st k vs u → In st m → ¬ Row m k vs
@@ -105,6 +105,6 @@ module _ (tape : List ℕ) (d : DoesRead tape) where
   pub one-row : length (rowsOf (fieldsOf tape .site .latitude) (recordsOf tape)) ≡ 1
   one-row = ap length (the-row .only)
 
-  pub row-scale : fieldsOf tape .site .scale ≡ number (the-row .row) 1
+  pub row-scale : fieldsOf tape .site .scale ≡ numberAt (the-row .row) 1
   unfolding picked
   row-scale = the-row .scale

@@ -12,8 +12,8 @@ use lib.ListN.{length}
 use borrow.Author.Tests.{eq-eqb}
 use Rattle.records.specs.Record.{Rec, rowKind, projectKind, startKind, closeKind}
 use Rattle.tape.specs.Tape.{atRows, afterProject, lineBegun, afterLeg, closed, isLeg}
-use Rattle.tape.specs.Tape.{inPhase, withRow, firstOf, start, recordsOf}
-use Rattle.tape.specs.Fields.{number, pick, only, DoesRead}
+use Rattle.tape.specs.Tape.{inPhase, withRow, minuteOf, start, recordsOf}
+use Rattle.tape.specs.Fields.{numberAt, pick, only, DoesRead}
 use Rattle.tape.specs.Legs.{Legs, last, leg, Order, row as a-row, opens}
 use Rattle.tape.specs.Passing.{InLine}
 use Rattle.tape.specs.declared.State.{State}
@@ -160,11 +160,11 @@ pub record Ordered (st : State) (rs : List Rec) (end : State) : Type 0 where
   pub few : st .legs ≤ 64 → end .legs ≤ 64
   pub rows : st .rows + length (pick (eqb rowKind) rs) ≡ end .rows
   pub next : 0 < st .rows → st .next + end .rows ≡ end .next + st .rows
-  pub held : In end (number (only projectKind rs) 0)
+  pub held : In end (numberAt (only projectKind rs) 0)
 
 module _ (st u end : State) (r : Rec) (rs : List Rec) where
-  order-row : r .kind ≡ rowKind → (0 < st .rows → firstOf (r .values) ≡ st .next)
-      → u ≡ withRow st (firstOf (r .values))
+  order-row : r .kind ≡ rowKind → (0 < st .rows → minuteOf (r .values) ≡ st .next)
+      → u ≡ withRow st (minuteOf (r .values))
       → Ordered u rs end → Ordered st (r ∷ rs) end
   order-row five follows e i =
       let legs = ap (λ (x : State). x .legs) e in
@@ -182,7 +182,7 @@ module _ (st u end : State) (r : Rec) (rs : List Rec) where
         held = rw (skips (eqb projectKind) rowKind r rs five refl) (i .held);
       }
 
-  order-opens : r .kind ≡ projectKind → In st (firstOf (r .values)) → u ≡ inPhase afterProject st
+  order-opens : r .kind ≡ projectKind → In st (minuteOf (r .values)) → u ≡ inPhase afterProject st
       → Begun u rs end
       → Ordered st (r ∷ rs) end
   order-opens one held e b =

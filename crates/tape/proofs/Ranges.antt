@@ -16,9 +16,9 @@ use Rattle.whole.specs.Order.{_≤ᶻ_}
 use Rattle.whole.proofs.Branch.{by-test, either}
 use Rattle.whole.proofs.Diff.{int}
 use Rattle.records.specs.Record.{Field, Rec, rec, rowKind, projectKind, startKind, legKind, closeKind}
-use Rattle.records.specs.Record.{fieldsOf, table, inRanges, goodOf}
+use Rattle.records.specs.Record.{kindFields, table, inRanges, goodOf}
 use Rattle.tape.specs.Tape.{isLeg, start, recordsOf}
-use Rattle.tape.specs.Fields.{Fields, number, pick, none, only, turns, angleOf, distanceOf}
+use Rattle.tape.specs.Fields.{Fields, numberAt, pick, none, only, turns, angleOf, distanceOf}
 use Rattle.tape.specs.Fields.{isRow, scaleOf, picked, DoesRead}
 use Rattle.tape.specs.Fields.{fieldsOf as named}
 use Rattle.tape.specs.Legs.{Good, Legs, last, leg, Order, row, opens}
@@ -61,9 +61,9 @@ inside (f ∷ fs) (v ∷ vs) e =
     ((leZ-yes (rw (j .0) tt), leZ-yes (rw (j .1) tt)), inside fs vs (i .1))
 
 good-inside : (k : ℕ) (vs : List ℤ) → goodOf k vs ≡ true
-    → Inside (fieldsOf k) (λ i. getD vs i (pos 0))
+    → Inside (kindFields k) (λ i. getD vs i (pos 0))
 unfolding goodOf
-good-inside k vs e = inside (fieldsOf k) vs e
+good-inside k vs e = inside (kindFields k) vs e
 
 -- and without their sign
 plain : (low high : ℕ) (z : ℤ) → (pos low ≤ᶻ z) × (z ≤ᶻ pos high) → Between low high (natAbs z)
@@ -127,11 +127,11 @@ abbrev Small : ℕ → Type 0
 Small k = (vs : List ℤ) → goodOf k vs ≡ true → angleOf (rec k vs) < 12960000
 
 leg-small : Small legKind
-unfolding angleOf fieldsOf table
+unfolding angleOf kindFields table
 leg-small vs g = omega (arith, plain _ _ _ (good-inside legKind vs g .0) .1)
 
 close-small : Small closeKind
-unfolding angleOf fieldsOf table
+unfolding angleOf kindFields table
 close-small vs g = omega (arith, plain _ _ _ (good-inside closeKind vs g .0) .1)
 
 angle-small : (r : Rec) → Picked turns r → angleOf r < 12960000
@@ -147,17 +147,17 @@ abbrev Long : ℕ → Type 0
 Long k = (vs : List ℤ) → goodOf k vs ≡ true → Between 1000 20000000 (distanceOf (rec k vs))
 
 leg-long : Long legKind
-unfolding distanceOf fieldsOf table
+unfolding distanceOf kindFields table
 leg-long vs g = plain _ _ _ (good-inside legKind vs g .1 .0)
 
 distance-small : (r : Rec) → Picked isLeg r → Between 1000 20000000 (distanceOf r)
 distance-small r t = by-leg Long leg-long (r .kind) (t .kind) (r .values) (t .good)
 
 scaled : (m : ℕ) (rs : List Rec) → Good rs → Has m rs → Between 9990000 10010000 (scaleOf m rs)
-unfolding scaleOf isRow fieldsOf table
+unfolding scaleOf isRow kindFields table
 scaled m [] g y = absurd y
 scaled m (r ∷ rs) g y =
-    by-test (Between 9990000 10010000) (eqb (r .kind) rowKind && eqb (number r 0) m)
+    by-test (Between 9990000 10010000) (eqb (r .kind) rowKind && eqb (numberAt r 0) m)
     (λ t. let five =
     eqb-true (r .kind) rowKind (and-eq-true-iff (eqb (r .kind) rowKind) _ .0 t .0) in
     plain _ _ _ (good-inside rowKind (r .values) (rw five at (g .0)) .1 .0))
@@ -165,7 +165,7 @@ scaled m (r ∷ rs) g y =
     (⊎-elim (λ x. no (sym t ∙ rw (eq-eqb _ _ (x .0), eq-eqb _ _ (x .1)))) (λ x. x) y))
 
 pub ranged : (tape : List ℕ) → DoesRead tape → Ranged (named tape)
-unfolding picked angleOf distanceOf fieldsOf table
+unfolding picked angleOf distanceOf kindFields table
 ranged tape d =
     let rs = recordsOf tape in
     let o = order-of tape d in

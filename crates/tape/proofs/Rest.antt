@@ -11,8 +11,8 @@ use lib.IntN.{ℤ, pos}
 use lib.ListN.{length, getD, drop, length-append, length-drop}
 use lib.Seq.{drop-drop, drop-at}
 use Rattle.records.specs.Bytes.{two, size, num, unsigned, meant}
-use Rattle.records.specs.Record.{Field, Rec, fieldsOf, numbers, numbersOf, bodyOf, bytesOf}
-use Rattle.tape.specs.Fields.{signed, number, AllBytes, DoesRead}
+use Rattle.records.specs.Record.{Field, Rec, kindFields, numbers, numbersOf, bodyOf, bytesOf}
+use Rattle.tape.specs.Fields.{signedAt, numberAt, AllBytes, DoesRead}
 use Rattle.tape.specs.Legs.{Good, Rest}
 use Rattle.tape.specs.Tape.{judge, start, recordsOf, tapeOf, runOf}
 use Rattle.tape.specs.declared.State.{State}
@@ -113,22 +113,22 @@ value-in (f ∷ fs) (suc i) l k h =
     (value-in fs i l (k + size (f .width)) (omega arith))
 
 module _ (tape : List ℕ) (at : ℕ) (r : Rec) (rs : List Rec) (h : Rest tape at (r ∷ rs)) where
-  pub value-there : (k i p : ℕ) → r .kind ≡ k → i < length (fieldsOf k)
-      → p ≡ at + 1 + offset (fieldsOf k) i → signed r i ≡ spelled (fieldsOf k) i tape p
+  pub value-there : (k i p : ℕ) → r .kind ≡ k → i < length (kindFields k)
+      → p ≡ at + 1 + offset (kindFields k) i → signedAt r i ≡ spelled (kindFields k) i tape p
   unfolding numbersOf
   value-there k i p kind low e =
-      let there : at + (1 + offset (fieldsOf k) i) ≡ p = omega arith in
+      let there : at + (1 + offset (kindFields k) i) ≡ p = omega arith in
       rw (
         ← numbers-there tape at r rs h,
         kind,
-        value-in (fieldsOf k) i (drop at tape) 1 low,
+        value-in (kindFields k) i (drop at tape) 1 low,
         num-drop,
         there,
       )
 
   -- and one without a sign
-  pub number-there : (k i p : ℕ) → r .kind ≡ k → i < length (fieldsOf k)
-      → fieldAt (fieldsOf k) i .coding ≡ unsigned
-      → p ≡ at + 1 + offset (fieldsOf k) i → number r i ≡ num (fieldAt (fieldsOf k) i .width) tape p
+  pub number-there : (k i p : ℕ) → r .kind ≡ k → i < length (kindFields k)
+      → fieldAt (kindFields k) i .coding ≡ unsigned
+      → p ≡ at + 1 + offset (kindFields k) i → numberAt r i ≡ num (fieldAt (kindFields k) i .width) tape p
   unfolding meant
   number-there k i p kind low c e = rw (value-there k i p kind low e, c)

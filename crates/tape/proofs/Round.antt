@@ -12,7 +12,7 @@ use lib.Seq.{drop-cons, drop-drop, take-add}
 use borrow.Author.Tests.{lt-ltb}
 use Rattle.records.specs.Bytes.{Width, two, four, size, num, bytes, Coding, unsigned}
 use Rattle.records.specs.Bytes.{twosComplement, room, meant, written}
-use Rattle.records.specs.Record.{Field, fieldsOf, total, numbers, spell, bodyOf, bytesOf, numbersOf}
+use Rattle.records.specs.Record.{Field, kindFields, total, numbers, spell, bodyOf, bytesOf, numbersOf}
 use Rattle.tape.specs.Tape.{Step, Next, Stop, walk, stepOf, judge, onStep, start, readingOf}
 use Rattle.tape.specs.Tape.{recordsFrom, recordsOf, tapeOf, runOf, fieldsRead}
 use Rattle.tape.specs.Fields.{AllBytes}
@@ -75,7 +75,7 @@ spell-numbers (f ∷ fs) l k b h =
 record-bytes : (x : ℕ) (l : List ℕ) → Bytes (x ∷ l) → bodyOf x ≤ length l
     → bytesOf x (numbersOf x (x ∷ l)) ≡ x ∷ take (bodyOf x) l
 unfolding bytesOf numbersOf bodyOf
-record-bytes x l b h = rw (spell-numbers (fieldsOf x) (x ∷ l) 1 b (omega arith))
+record-bytes x l b h = rw (spell-numbers (kindFields x) (x ∷ l) 1 b (omega arith))
 
 -- a record that is taken is whole, and so is judged as its fields alone are
 taken-whole : (st st′ : State) (x : ℕ) (l : List ℕ) → Next st′ ≡ stepOf st (x ∷ l)

@@ -13,7 +13,7 @@ use lib.Dec.{eqb, ltb, leb}
 use lib.IntN.{ℤ}
 use borrow.Author.Tests.{ltb-true, ltb-false, leb-true, leb-false, eqb-true}
 use Rattle.records.specs.Record.{Rec, rowKind}
-use Rattle.tape.specs.Tape.{closed, withRow, projectNext, firstOf, start, runOf}
+use Rattle.tape.specs.Tape.{closed, withRow, projectNext, minuteOf, start, runOf}
 use Rattle.tape.specs.Tape.{Step, Next, Stop, judge}
 use Rattle.tape.specs.declared.State.{State}
 use Rattle.tape.specs.declared.Reading.{Reading}
@@ -47,7 +47,7 @@ runs st at (r ∷ rs) last e =
 
 -- a record that is a row of the minute m, and records among which there is one
 abbrev pub Row : ℕ → ℕ → List ℤ → Type 0
-Row m k vs = (k ≡ rowKind) × (firstOf vs ≡ m)
+Row m k vs = (k ≡ rowKind) × (minuteOf vs ≡ m)
 
 abbrev pub Has : ℕ → List Rec → Type 0
 Has m [] = ⊥
@@ -59,7 +59,7 @@ module _ (st : State) (k : ℕ) (vs : List ℤ) (m : ℕ) where
   Adds u = In u m ↔ (In st m ⊎ Row m k vs)
 
   -- a row that is not the first has the minute next
-  row-adds : k ≡ rowKind → (0 < st .rows → firstOf vs ≡ st .next) → Adds (withRow st (firstOf vs))
+  row-adds : k ≡ rowKind → (0 < st .rows → minuteOf vs ≡ st .next) → Adds (withRow st (minuteOf vs))
   row-adds e follows = (
     λ i. ⊎-elim (λ f. inr (e, sym f)) (λ h. let f = follows (omega arith) in inl (omega arith))
         (eq-or-lt-of-le (omega arith)),

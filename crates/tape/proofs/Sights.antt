@@ -10,7 +10,7 @@ use lib.ListN.{length, getD}
 use borrow.Author.Tests.{le-leb, lt-leb, ne-eqb}
 use Rattle.whole.proofs.Branch.{by-test}
 use Rattle.records.specs.Bytes.{four, num, meant}
-use Rattle.records.specs.Record.{bodyOf, numbersOf, fieldsOf, table}
+use Rattle.records.specs.Record.{bodyOf, numbersOf, kindFields, table}
 use Rattle.tape.specs.Fields.{angleOf, distanceOf}
 use Rattle.tape.specs.Legs.{recordAt, noSight, sightOf, sightAt}
 use Rattle.tape.specs.declared.Sight.{Sight}
@@ -31,7 +31,7 @@ module _ (tape : List ℕ) (at : ℕ) where
   module _ (n : ℕ) (low : at < n) (a : ℕ) (angle : a ≡ num four tape (at + 1)) where
     pub leg-sight : (d : ℕ) → n ≡ length tape - 8 → d ≡ num four tape (at + 5)
         → getD tape at 0 ≡ 3 → record { angle = a; distance = d; next = at + 9 } ≡ sightAt tape at
-    unfolding angleOf distanceOf numbersOf bodyOf fieldsOf table meant
+    unfolding angleOf distanceOf numbersOf bodyOf kindFields table meant
     leg-sight d e distance is =
         let f : at + 9 ≡ at + 1 + 8 = omega arith in
         rw (is, num-drop four at tape 1, num-drop four at tape 5, ← angle, ← distance, ← f)
@@ -39,7 +39,7 @@ module _ (tape : List ℕ) (at : ℕ) where
 
     pub close-sight : n ≡ length tape - 16 → getD tape at 0 ≡ 4
         → record { angle = a; distance = 0; next = at } ≡ sightAt tape at
-    unfolding angleOf numbersOf bodyOf fieldsOf table meant
+    unfolding angleOf numbersOf bodyOf kindFields table meant
     close-sight e is =
         rw (is, num-drop four at tape 1, ← angle) at (whole-sight 4 is (omega arith))
 
@@ -54,7 +54,7 @@ module _ (tape : List ℕ) (at : ℕ) where
 
   module _ (no-leg : getD tape at 0 ≡ 3 → length tape ≤ at + bodyOf 3) where
     no-sight : (getD tape at 0 ≡ 4 → length tape ≤ at + 16) → noSight at ≡ sightAt tape at
-    unfolding bodyOf fieldsOf table
+    unfolding bodyOf kindFields table
     no-sight no-close =
         elim (ℕ-discrete (getD tape at 0) 3) [
           | yes is ↦ short-sight 3 is (omega (arith, no-leg is))
@@ -73,7 +73,7 @@ module _ (tape : List ℕ) (at : ℕ) where
   -- what `sight_at` has found where it asks for the close
   pub far-leg : (n : ℕ) → n ≡ length tape - 8 → n ≤ at → getD tape at 0 ≡ 3
       → length tape ≤ at + bodyOf 3
-  unfolding bodyOf fieldsOf table
+  unfolding bodyOf kindFields table
   far-leg n e h is = omega arith
 
   pub other-leg : (getD tape at 0 ≡ 3 → ⊥) → getD tape at 0 ≡ 3 → length tape ≤ at + bodyOf 3

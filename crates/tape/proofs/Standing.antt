@@ -12,10 +12,10 @@ use lib.ListN.{length}
 use borrow.Author.Tests.{eq-eqb, ne-eqb}
 use Rattle.whole.specs.declared.Whole.{Whole}
 use Rattle.records.specs.Bytes.{two, four, num, meant, unsigned, twosComplement}
-use Rattle.records.specs.Record.{Rec, rowKind, projectKind, startKind, closeKind, fieldsOf}
+use Rattle.records.specs.Record.{Rec, rowKind, projectKind, startKind, closeKind, kindFields}
 use Rattle.records.specs.Record.{table, bodyOf}
-use Rattle.tape.specs.Tape.{atRows, closed, isLeg, start, recordsOf, readingOf, told}
-use Rattle.tape.specs.Fields.{signed, number, pick, only, placeOf, isRow, scaleOf, picked}
+use Rattle.tape.specs.Tape.{atRows, closed, isLeg, start, recordsOf, readingOf, toldReading}
+use Rattle.tape.specs.Fields.{signedAt, numberAt, pick, only, placeOf, isRow, scaleOf, picked}
 use Rattle.tape.specs.Fields.{controlOf, takenIf, takenOf, toldTaken, ReadsTo, DoesRead}
 use Rattle.tape.specs.Fields.{fieldsOf as named}
 use Rattle.tape.specs.Legs.{Rest, Legs, last, leg, Order, row as a-row, opens}
@@ -55,7 +55,7 @@ record Found (tape : List ℕ) (rs : List Rec) (at q : ℕ) : Type 0 where
 found : (tape : List ℕ) {rs : List Rec} → Order rs → (at q : ℕ) → Rest tape at rs
     → q ≡ at + 7 * length (pick (eqb rowKind) rs)
     → Found tape rs at q
-unfolding bodyOf fieldsOf table
+unfolding bodyOf kindFields table
 found tape (a-row r {rs} e o) at q h f =
     let i = found tape o (at + 7) q (after tape at rowKind (at + 7) r rs h e (omega arith))
     (rw (pick-yes (eqb rowKind) r rs (eq-eqb rowKind (r .kind) (sym e))) at f ∙ omega arith) in
@@ -166,14 +166,14 @@ module _ (tape : List ℕ) (end : State) (m : ℕ) where
       → st .rows + j < end .rows → p ≡ at + 7 * j + 3 → scaleOf m rs ≡ num four tape p
 
   row-scale : (st u : State) (r : Rec) (rs : List Rec) → r .kind ≡ rowKind → u .rows ≡ st .rows + 1
-      → number r 0 + end .rows ≡ end .next + st .rows
+      → numberAt r 0 + end .rows ≡ end .next + st .rows
       → Scaled u rs → Scaled st (r ∷ rs)
-  unfolding scaleOf isRow bodyOf fieldsOf table
+  unfolding scaleOf isRow bodyOf kindFields table
   row-scale st u r rs e f g ih zero at p h due low place =
-      rw (eq-eqb (r .kind) rowKind e, eq-eqb (number r 0) m (omega arith))
+      rw (eq-eqb (r .kind) rowKind e, eq-eqb (numberAt r 0) m (omega arith))
       (number-there tape at r rs h rowKind 1 p e (omega arith) refl (omega arith))
   row-scale st u r rs e f g ih (suc j) at p h due low place =
-      rw (ne-eqb (number r 0) m (λ z. omega arith), eq-eqb (r .kind) rowKind e)
+      rw (ne-eqb (numberAt r 0) m (λ z. omega arith), eq-eqb (r .kind) rowKind e)
       (ih j (at + 7) p (after tape at rowKind (at + 7) r rs h e (omega arith)) (omega arith)
       (omega arith) (omega arith))
 
@@ -220,7 +220,7 @@ module _ (tape : List ℕ) (last : State) (to : ReadsTo tape last) where
   closing = shut tape (order-of tape does .order) 0 (rest-start tape (to .bytes) does)
 
   pub long : last .rows * 7 + 18 ≤ length tape
-  unfolding bodyOf fieldsOf table
+  unfolding bodyOf kindFields table
   long =
       let b = opening in
       omega (
@@ -229,7 +229,7 @@ module _ (tape : List ℕ) (last : State) (to : ReadsTo tape last) where
       )
 
   close-long : closing .place + 17 ≡ length tape
-  unfolding bodyOf fieldsOf table
+  unfolding bodyOf kindFields table
   close-long =
       let c = closing in
       omega (arith, rw (c .four-is) at (last-there tape (c .place) (c .c) (c .close)))
@@ -239,8 +239,8 @@ module _ (tape : List ℕ) (last : State) (to : ReadsTo tape last) where
 
   -- the latitude, and its row
   module _ (m : ℕ) (e : m ≡ num two tape (last .rows * 7 + 1)) where
-    latitude-is : number (only projectKind (recordsOf tape)) 0 ≡ m
-    unfolding fieldsOf table
+    latitude-is : numberAt (only projectKind (recordsOf tape)) 0 ≡ m
+    unfolding kindFields table
     latitude-is =
         let b = opening in
         rw (b .is-project, e)
@@ -268,9 +268,9 @@ module _ (tape : List ℕ) (last : State) (to : ReadsTo tape last) where
   legs-are : length (pick isLeg (recordsOf tape)) ≡ last .legs
   legs-are = omega (arith, order-of tape does .legs)
 
-  elevation-is : signed (only projectKind (recordsOf tape)) 1
+  elevation-is : signedAt (only projectKind (recordsOf tape)) 1
       ≡ meant twosComplement two (num two tape (last .rows * 7 + 3))
-  unfolding fieldsOf table
+  unfolding kindFields table
   elevation-is =
       let b = opening in
       rw (b .is-project)
@@ -278,21 +278,21 @@ module _ (tape : List ℕ) (last : State) (to : ReadsTo tape last) where
       (omega arith))
 
   -- the numbers of the start and of the close
-  begins-number : (i p : ℕ) → i < length (fieldsOf startKind)
-      → fieldAt (fieldsOf startKind) i .coding ≡ unsigned
-      → p ≡ last .rows * 7 + 5 + 1 + offset (fieldsOf startKind) i
-      → number (only startKind (recordsOf tape)) i ≡ num
-      (fieldAt (fieldsOf startKind) i .width) tape p
+  begins-number : (i p : ℕ) → i < length (kindFields startKind)
+      → fieldAt (kindFields startKind) i .coding ≡ unsigned
+      → p ≡ last .rows * 7 + 5 + 1 + offset (kindFields startKind) i
+      → numberAt (only startKind (recordsOf tape)) i ≡ num
+      (fieldAt (kindFields startKind) i .width) tape p
   begins-number i p low c e =
       let b = opening in
       rw (b .is-start)
       (number-there tape _ (b .s) (b .ss) (b .begins) startKind i p (b .begins-kind) low c e)
 
-  closes-number : (i p : ℕ) → i < length (fieldsOf closeKind)
-      → fieldAt (fieldsOf closeKind) i .coding ≡ unsigned
-      → p ≡ closing .place + 1 + offset (fieldsOf closeKind) i
-      → number (only closeKind (recordsOf tape)) i ≡ num
-      (fieldAt (fieldsOf closeKind) i .width) tape p
+  closes-number : (i p : ℕ) → i < length (kindFields closeKind)
+      → fieldAt (kindFields closeKind) i .coding ≡ unsigned
+      → p ≡ closing .place + 1 + offset (kindFields closeKind) i
+      → numberAt (only closeKind (recordsOf tape)) i ≡ num
+      (fieldAt (kindFields closeKind) i .width) tape p
   closes-number i p low c e =
       let b = closing in
       rw (b .is-close) (number-there tape _ (b .c) [] (b .close) closeKind i p (b .four-is) low c e)
@@ -319,7 +319,7 @@ module _ (tape : List ℕ) (last : State) (to : ReadsTo tape last) where
         given = given;
         place = at;
       } ≡ controlOf (named tape)
-  unfolding picked fieldsOf table
+  unfolding picked kindFields table
   control-is at begin line elevation latitude scale north east mark to-north to-east given
       a b c d e f g h i j k l =
       let close : at ≡ closing .place = omega (arith, close-long) in
@@ -374,13 +374,13 @@ module _ (tape : List ℕ) (r : Reading) (e : r ≡ readingOf tape) where
 
 -- what is taken tells the number and the place of the reading
 pub taken-tells : (tape : List ℕ)
-    → (toldTaken (takenOf tape) .number ≡ told (readingOf tape) .number)
-    × (toldTaken (takenOf tape) .place ≡ told (readingOf tape) .place)
+    → (toldTaken (takenOf tape) .number ≡ toldReading (readingOf tape) .number)
+    × (toldTaken (takenOf tape) .place ≡ toldReading (readingOf tape) .place)
 unfolding takenOf
 taken-tells tape = go (readingOf tape)
   where
-    go : (r : Reading) → (toldTaken (takenIf r (named tape)) .number ≡ told r .number)
-        × (toldTaken (takenIf r (named tape)) .place ≡ told r .place)
+    go : (r : Reading) → (toldTaken (takenIf r (named tape)) .number ≡ toldReading r .number)
+        × (toldTaken (takenIf r (named tape)) .place ≡ toldReading r .place)
     go (Reads st) = (refl, refl)
     go (Refused n p) = (refl, refl)
 

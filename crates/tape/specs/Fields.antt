@@ -17,7 +17,7 @@ use Rattle.tape.specs.declared.Taken.{Taken}
 use Rattle.tape.specs.declared.Taken.the-variants as taken
 use Rattle.tape.specs.declared.Reading.{Reading}
 use Rattle.tape.specs.declared.Reading.the-variants as reading
-use Rattle.tape.specs.Tape.{isLeg, readingOf, recordsOf, Told}
+use Rattle.tape.specs.Tape.{isLeg, readingOf, recordsOf, ToldReading}
 
 -- ---- the parts
 -- where the project lies: its mean latitude and elevation, and the factor of the row of that
@@ -36,7 +36,7 @@ pub record Opening : Type 0 where
 
 -- how many legs, the angles turned (of each leg in its turn, then the closing one), and the
 -- distances of the legs
-pub record Line : Type 0 where
+pub record Measured : Type 0 where
   pub legs : ℕ
   pub angles : List ℕ
   pub distances : List ℕ
@@ -50,16 +50,16 @@ pub record Closing : Type 0 where
 pub record Fields : Type 0 where
   pub site : Site
   pub opening : Opening
-  pub line : Line
+  pub line : Measured
   pub closing : Closing
 
 -- ---- picking
--- a record's number k, and the same without its sign
-abbrev pub signed : Rec → ℕ → ℤ
-signed r k = getD (r .values) k (pos 0)
+-- a record's number k; and its size, of a number that has no sign
+abbrev pub signedAt : Rec → ℕ → ℤ
+signedAt r k = getD (r .values) k (pos 0)
 
-abbrev pub number : Rec → ℕ → ℕ
-number r k = natAbs (signed r k)
+abbrev pub numberAt : Rec → ℕ → ℕ
+numberAt r k = natAbs (signedAt r k)
 
 -- the records whose kind p picks, in their order
 unfoldable pub pick : (ℕ → Bool) → List Rec → List Rec
@@ -83,27 +83,27 @@ abbrev pub turns : ℕ → Bool
 turns k = isLeg k || eqb k closeKind
 
 unfoldable pub angleOf : Rec → ℕ
-angleOf r = number r 0
+angleOf r = numberAt r 0
 
 unfoldable pub distanceOf : Rec → ℕ
-distanceOf r = number r 1
+distanceOf r = numberAt r 1
 
 -- the factor of the first row that has the latitude; 0 if there is none
 unfoldable pub isRow : ℕ → Rec → Bool
-isRow latitude r = eqb (r .kind) rowKind && eqb (number r 0) latitude
+isRow latitude r = eqb (r .kind) rowKind && eqb (numberAt r 0) latitude
 
 unfoldable pub scaleOf : ℕ → List Rec → ℕ
 scaleOf latitude [] = 0
-scaleOf latitude (r ∷ rs) = cond (isRow latitude r) (number r 1) (scaleOf latitude rs)
+scaleOf latitude (r ∷ rs) = cond (isRow latitude r) (numberAt r 1) (scaleOf latitude rs)
 
 -- ---- the fields of some records
 abbrev pub siteOf : List Rec → Site
 siteOf rs =
     let project = only projectKind rs in
-    let latitude = number project 0 in
+    let latitude = numberAt project 0 in
     record {
       latitude = latitude;
-      elevation = record { v = signed project 1 };
+      elevation = record { v = signedAt project 1 };
       scale = scaleOf latitude rs;
     }
 
@@ -111,13 +111,13 @@ abbrev pub openingOf : List Rec → Opening
 openingOf rs =
     let start = only startKind rs in
     record {
-      from = record { north = number start 0; east = number start 1 };
-      mark = number start 2;
+      from = record { north = numberAt start 0; east = numberAt start 1 };
+      mark = numberAt start 2;
       line = placeOf isLeg 0 rs;
     }
 
-abbrev pub lineOf : List Rec → Line
-lineOf rs =
+abbrev pub measuredOf : List Rec → Measured
+measuredOf rs =
     record {
       legs = length (pick isLeg rs);
       angles = map angleOf (pick turns rs);
@@ -128,14 +128,19 @@ abbrev pub closingOf : List Rec → Closing
 closingOf rs =
     let close = only closeKind rs in
     record {
-      to = record { north = number close 1; east = number close 2 };
-      given = number close 3;
+      to = record { north = numberAt close 1; east = numberAt close 2 };
+      given = numberAt close 3;
       place = placeOf (eqb closeKind) 0 rs;
     }
 
 unfoldable pub picked : List Rec → Fields
 picked rs =
-    record { site = siteOf rs; opening = openingOf rs; line = lineOf rs; closing = closingOf rs }
+    record {
+      site = siteOf rs;
+      opening = openingOf rs;
+      line = measuredOf rs;
+      closing = closingOf rs;
+    }
 
 abbrev pub fieldsOf : List ℕ → Fields
 fieldsOf tape = picked (recordsOf tape)
@@ -180,7 +185,7 @@ noControl =
       place = 0;
     }
 
-abbrev pub toldTaken : Taken → Told Control
+abbrev pub toldTaken : Taken → ToldReading Control
 toldTaken (taken.Reads c) = record { number = 0; place = 0; read = c }
 toldTaken (taken.Refused n p) = record { number = n; place = p; read = noControl }
 

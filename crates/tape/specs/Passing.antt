@@ -22,12 +22,12 @@ abbrev pub cursor : ℕ → State → Cursor
 cursor at st = record { at = at; st = st }
 
 -- the reading from a cursor on
-abbrev pub onward : List ℕ → Cursor → Reading
-onward tape c = walk (c .st) (c .at) 0 (drop (c .at) tape)
+abbrev pub readingFrom : List ℕ → Cursor → Reading
+readingFrom tape c = walk (c .st) (c .at) 0 (drop (c .at) tape)
 
 -- the reading is refused at the cursor with n, or n is 0, and it goes on from the cursor
 abbrev pub reached : List ℕ → ℕ → Cursor → Reading
-reached tape n c = cond (eqb n 0) (onward tape c) (Refused n (c .at))
+reached tape n c = cond (eqb n 0) (readingFrom tape c) (Refused n (c .at))
 
 -- ---- the cursor after a record
 -- the cursor a number of bytes further on, in a phase
@@ -42,7 +42,7 @@ pastLeg tape c = cursor (c .at + 1 + bodyOf (getD tape (c .at) 0)) (withLeg (c .
 
 -- n refuses the record at the cursor, or is 0, and the reading goes on after it
 pub record Passes (tape : List ℕ) (c : Cursor) (n : ℕ) (after : Cursor) : Type 0 where
-  pub same : onward tape c ≡ cond (eqb n 0) (onward tape after) (Refused n (c .at))
+  pub same : readingFrom tape c ≡ cond (eqb n 0) (readingFrom tape after) (Refused n (c .at))
   pub within : n ≡ 0 → after .at ≤ length tape
 
 -- the numbers of the record at a place are in range
@@ -66,6 +66,6 @@ pub record Opened (tape : List ℕ) (r : Passed) : Type 0 where
 
 -- all legs, from a cursor on
 pub record Walked (tape : List ℕ) (c : Cursor) (r : Passed) : Type 0 where
-  pub same : onward tape c ≡ reached tape (r .number) (r .cursor)
+  pub same : readingFrom tape c ≡ reached tape (r .number) (r .cursor)
   pub line : InLine (r .cursor .st)
   pub none : r .number ≡ 0 → isLeg (getD tape (r .cursor .at) 0) ≡ false

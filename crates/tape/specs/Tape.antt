@@ -84,14 +84,14 @@ projectNext st latitude =
     (Stop noRow)
 
 -- the first number of a record, a minute for rows and the project
-abbrev pub firstOf : List ℤ → ℕ
-firstOf vs = natAbs (getD vs 0 (pos 0))
+abbrev pub minuteOf : List ℤ → ℕ
+minuteOf vs = natAbs (getD vs 0 (pos 0))
 
 -- what follows a record that is whole and in range
 unfoldable pub afterOf : State → ℕ → List ℤ → Step
 afterOf st k vs =
-    cond (eqb k rowKind) (rowNext st (firstOf vs))
-    (cond (eqb k projectKind) (projectNext st (firstOf vs))
+    cond (eqb k rowKind) (rowNext st (minuteOf vs))
+    (cond (eqb k projectKind) (projectNext st (minuteOf vs))
     (cond (eqb k startKind) (Next (inPhase lineBegun st))
     (cond (isLeg k) (Next (withLeg st))
     (Next (inPhase closed st)))))
@@ -160,7 +160,7 @@ abbrev pub fieldsRead : List Rec → Reading
 fieldsRead rs = runOf start 0 rs
 
 -- ---- what is told: number, place, and what was read, of which every number is zero on a refusal
-pub record Told (A : Type 0) : Type 0 where
+pub record ToldReading (A : Type 0) : Type 0 where
   pub number : ℕ
   pub place : ℕ
   pub read : A
@@ -168,6 +168,6 @@ pub record Told (A : Type 0) : Type 0 where
 abbrev pub noState : State
 noState = record { phase = 0; rows = 0; next = 0; legs = 0 }
 
-abbrev pub told : Reading → Told State
-told (Reads st) = record { number = 0; place = 0; read = st }
-told (Refused n p) = record { number = n; place = p; read = noState }
+abbrev pub toldReading : Reading → ToldReading State
+toldReading (Reads st) = record { number = 0; place = 0; read = st }
+toldReading (Refused n p) = record { number = n; place = p; read = noState }

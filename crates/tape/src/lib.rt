@@ -9,7 +9,7 @@ ghost use mathlib.Core.Path.{_≡_};
 ghost use Prim.Native.Nat.{_+_, _-_, _≤_};
 ghost use lib.ListN.{length, getD};
 ghost use Rattle.records.specs.Record.{legKind, bodyOf};
-ghost use Rattle.tape.specs.Tape.{isLeg, readingOf, told};
+ghost use Rattle.tape.specs.Tape.{isLeg, readingOf, toldReading};
 ghost use Rattle.tape.specs.Fields.{takenOf, toldTaken, AllBytes};
 ghost use Rattle.tape.specs.Legs.{sightAt};
 
@@ -82,7 +82,7 @@ mod taking;
 // The reading of any tape, before refusals 8 and 9.
 pub fn read(tape: &[u8]) -> Reading
     ensures is { λ r. ⌜ r ≡ readingOf (now (tape .entry)) ⌝ }
-    ensures told { λ r. ⌜ told r ≡ told (readingOf (now (tape .entry))) ⌝ }
+    ensures told { λ r. ⌜ toldReading r ≡ toldReading (readingOf (now (tape .entry))) ⌝ }
 {
     order::read_all(tape)
 }
@@ -100,15 +100,15 @@ pub fn take(tape: &[u8]) -> Taken
     }
 }
 
-// How many places of a tape have a given number of bytes after them: a place is then tested by one
-// comparison, with no sum that could overflow.
-fn places(tape: &[u8], after: usize) -> usize
-    ensures { λ r. ⌜ r ≡ length (now (tape .entry)) - after ⌝ }
+// The first place at which no record of a body that long stands whole: one comparison tests a
+// place, with no sum that could overflow.
+fn fits_before(tape: &[u8], body: usize) -> usize
+    ensures { λ r. ⌜ r ≡ length (now (tape .entry)) - body ⌝ }
 {
-    if tape.len() < after {
+    if tape.len() < body {
         return 0;
     }
-    tape.len() - after
+    tape.len() - body
 }
 
 // Whether a kind is one of the legs.
@@ -123,7 +123,7 @@ fn closing_sight(tape: &[u8], at: usize) -> Sight
     requires { ⌜ (getD (now tape) at 0 ≡ legKind → length (now tape) ≤ at + bodyOf legKind) ⌝ }
     ensures { λ r. ⌜ r ≡ sightAt (now (tape .entry)) at ⌝ }
 {
-    if at < places(tape, CLOSE_BODY) {
+    if at < fits_before(tape, CLOSE_BODY) {
         if tape[at] == CLOSE {
             return Sight {
                 angle: digits::four_at(tape, at + 1),
@@ -143,7 +143,7 @@ fn closing_sight(tape: &[u8], at: usize) -> Sight
 pub fn sight_at(tape: &[u8], at: usize) -> Sight
     ensures { λ r. ⌜ r ≡ sightAt (now (tape .entry)) at ⌝ }
 {
-    if at < places(tape, LEG_BODY) {
+    if at < fits_before(tape, LEG_BODY) {
         if tape[at] == LEG {
             return Sight {
                 angle: digits::four_at(tape, at + 1),

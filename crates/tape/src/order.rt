@@ -9,8 +9,8 @@ use crate::Passed;
 use crate::Reading;
 use crate::State;
 use crate::digits;
+use crate::fits_before;
 use crate::is_leg;
-use crate::places;
 use answer::limit;
 use answer::refusal::BAD_ROWS;
 use answer::refusal::CUT_SHORT;
@@ -43,7 +43,7 @@ ghost use Rattle.answer.specs.Refusal.{cutShort, outOfOrder};
 ghost use Rattle.records.specs.Record.{rowKind, projectKind, startKind, closeKind, bodyOf};
 ghost use Rattle.tape.specs.Tape.{mostRows, atRows, afterProject, lineBegun, closed};
 ghost use Rattle.tape.specs.Tape.{isLeg, readingOf};
-ghost use Rattle.tape.specs.Passing.{onward, past, pastRow, pastLeg, Passes};
+ghost use Rattle.tape.specs.Passing.{readingFrom, past, pastRow, pastLeg, Passes};
 ghost use Rattle.tape.specs.Passing.{goodThere, InLine, Rowed, Opened, Walked};
 
 // ---- what has come last; the number 2 is kept for a record between the project and the start
@@ -331,7 +331,7 @@ fn close(tape: &[u8], c: Cursor) -> u32
 fn rows(tape: &[u8]) -> Passed
     ensures { λ r. ⌜ Rowed (now (tape .entry)) r ⌝ }
 {
-    let end = least(places(tape, ROW_BODY), MOST_ROW_BYTES);
+    let end = least(fits_before(tape, ROW_BODY), MOST_ROW_BYTES);
     let st = State {
         phase: AT_ROWS,
         rows: 0,
@@ -401,7 +401,7 @@ fn line(tape: &[u8], begun: Cursor) -> Passed
 fn finish(tape: &[u8], c: Cursor) -> Reading
     requires { ⌜ isLeg (getD (now tape) (c .at) 0) ≡ false ⌝ }
     requires { ⌜ InLine (c .st) ⌝ }
-    ensures { λ r. ⌜ r ≡ onward (now (tape .entry)) c ⌝ }
+    ensures { λ r. ⌜ r ≡ readingFrom (now (tape .entry)) c ⌝ }
 {
     let number = close(tape, c);
     if number != 0 {

@@ -10,84 +10,84 @@ use lib.ListN.{length, set, length-append, length-set}
 use lib.Seq.{sets}
 use mir.Syntax.{w64}
 use mir.Val.{Fits}
-use Rattle.text.specs.Text.{digits, placesIn, places, decimal}
+use Rattle.text.specs.Text.{digits, digitCountIn, digitCount, decimal}
 use Rattle.text.specs.Room.{Room, Put}
 use Rattle.text.proofs.Putting.{sets-last}
 
-placesIn-low : (f n : ℕ) → n < 10 → placesIn f n ≡ 1
-unfolding placesIn
-placesIn-low zero n h = refl
-placesIn-low (suc f) n h = rw (lt-ltb n 10 h)
+digitCountIn-low : (f n : ℕ) → n < 10 → digitCountIn f n ≡ 1
+unfolding digitCountIn
+digitCountIn-low zero n h = refl
+digitCountIn-low (suc f) n h = rw (lt-ltb n 10 h)
 
-placesIn-high : (f n : ℕ) → 10 ≤ n → placesIn (suc f) n ≡ 1 + placesIn f (n / 10)
-unfolding placesIn
-placesIn-high f n h = rw (le-ltb n 10 h)
+digitCountIn-high : (f n : ℕ) → 10 ≤ n → digitCountIn (suc f) n ≡ 1 + digitCountIn f (n / 10)
+unfolding digitCountIn
+digitCountIn-high f n h = rw (le-ltb n 10 h)
 
 -- any number of steps that is at least n is enough
-placesIn-enough : (f g n : ℕ) → n ≤ f → n ≤ g → placesIn f n ≡ placesIn g n
-placesIn-enough zero g n h i = rw (placesIn-low zero n (omega arith), placesIn-low g n (omega arith))
-placesIn-enough (suc f) zero n h i = rw (placesIn-low (suc f) n (omega arith), placesIn-low zero n (omega arith))
-placesIn-enough (suc f) (suc g) n h i =
+digitCountIn-enough : (f g n : ℕ) → n ≤ f → n ≤ g → digitCountIn f n ≡ digitCountIn g n
+digitCountIn-enough zero g n h i = rw (digitCountIn-low zero n (omega arith), digitCountIn-low g n (omega arith))
+digitCountIn-enough (suc f) zero n h i = rw (digitCountIn-low (suc f) n (omega arith), digitCountIn-low zero n (omega arith))
+digitCountIn-enough (suc f) (suc g) n h i =
     elim (decLt n 10) [
-      | yes l ↦ rw (placesIn-low (suc f) n l, placesIn-low (suc g) n l)
-      | no l ↦ rw (placesIn-high f n (omega arith), placesIn-high g n (omega arith), placesIn-enough f g (n / 10) (omega arith) (omega arith))
+      | yes l ↦ rw (digitCountIn-low (suc f) n l, digitCountIn-low (suc g) n l)
+      | no l ↦ rw (digitCountIn-high f n (omega arith), digitCountIn-high g n (omega arith), digitCountIn-enough f g (n / 10) (omega arith) (omega arith))
     ]
 
-pub places-low : (n : ℕ) → n < 10 → places n ≡ 1
-places-low n h = placesIn-low n n h
+pub digitCount-low : (n : ℕ) → n < 10 → digitCount n ≡ 1
+digitCount-low n h = digitCountIn-low n n h
 
-pub places-high : (n : ℕ) → 10 ≤ n → places n ≡ 1 + places (n / 10)
-places-high zero h = absurd (omega arith)
-places-high (suc n) h = rw (placesIn-high n (suc n) h, placesIn-enough n (suc n / 10) (suc n / 10) (omega arith) (omega arith))
+pub digitCount-high : (n : ℕ) → 10 ≤ n → digitCount n ≡ 1 + digitCount (n / 10)
+digitCount-high zero h = absurd (omega arith)
+digitCount-high (suc n) h = rw (digitCountIn-high n (suc n) h, digitCountIn-enough n (suc n / 10) (suc n / 10) (omega arith) (omega arith))
 
 -- few steps are enough for few digits
-placesIn-short : (f n : ℕ) → n < 10 ^ suc f → placesIn f n ≡ places n
-placesIn-short zero n h = rw (placesIn-low zero n (omega arith), places-low n (omega arith))
-placesIn-short (suc f) n h =
+digitCountIn-short : (f n : ℕ) → n < 10 ^ suc f → digitCountIn f n ≡ digitCount n
+digitCountIn-short zero n h = rw (digitCountIn-low zero n (omega arith), digitCount-low n (omega arith))
+digitCountIn-short (suc f) n h =
     elim (decLt n 10) [
-      | yes l ↦ rw (placesIn-low (suc f) n l, places-low n l)
-      | no l ↦ rw (placesIn-high f n (omega arith), places-high n (omega arith), placesIn-short f (n / 10) (omega arith))
+      | yes l ↦ rw (digitCountIn-low (suc f) n l, digitCount-low n l)
+      | no l ↦ rw (digitCountIn-high f n (omega arith), digitCount-high n (omega arith), digitCountIn-short f (n / 10) (omega arith))
     ]
 
-pub decimal-short : (f n : ℕ) → n < 10 ^ suc f → decimal n ≡ digits (placesIn f n) n
+pub decimal-short : (f n : ℕ) → n < 10 ^ suc f → decimal n ≡ digits (digitCountIn f n) n
 unfolding decimal
-decimal-short f n h = rw (placesIn-short f n h)
+decimal-short f n h = rw (digitCountIn-short f n h)
 
 -- no more than k digits, where k digits hold the number
-pub places-most : (k n : ℕ) → n < 10 ^ suc k → places n ≤ suc k
-places-most zero n h = rw (places-low n (omega arith)) (omega arith)
-places-most (suc k) n h =
+pub digitCount-most : (k n : ℕ) → n < 10 ^ suc k → digitCount n ≤ suc k
+digitCount-most zero n h = rw (digitCount-low n (omega arith)) (omega arith)
+digitCount-most (suc k) n h =
     elim (decLt n 10) [
-      | yes l ↦ rw (places-low n l) (omega arith)
-      | no l ↦ rw (places-high n (omega arith)) (omega (arith, places-most k (n / 10) (omega arith)))
+      | yes l ↦ rw (digitCount-low n l) (omega arith)
+      | no l ↦ rw (digitCount-high n (omega arith)) (omega (arith, digitCount-most k (n / 10) (omega arith)))
     ]
 
 -- they hold it, and one fewer would not
-pub places-hold : (k n : ℕ) → places n ≤ k → n < 10 ^ k
-places-hold zero n h =
+pub digitCount-hold : (k n : ℕ) → digitCount n ≤ k → n < 10 ^ k
+digitCount-hold zero n h =
     elim (decLt n 10) [
-      | yes l ↦ absurd (omega (arith, places-low n l))
-      | no l ↦ absurd (omega (arith, places-high n (omega arith)))
+      | yes l ↦ absurd (omega (arith, digitCount-low n l))
+      | no l ↦ absurd (omega (arith, digitCount-high n (omega arith)))
     ]
-places-hold (suc k) n h =
+digitCount-hold (suc k) n h =
     elim (decLt n 10) [
       | yes l ↦ omega (arith, pow-suc 10 k, one-le-pow k 10 (omega arith))
-      | no l ↦ omega (arith, pow-suc 10 k, places-hold k (n / 10) (omega (arith, places-high n (omega arith))))
+      | no l ↦ omega (arith, pow-suc 10 k, digitCount-hold k (n / 10) (omega (arith, digitCount-high n (omega arith))))
     ]
 
-pub places-fewest : (k n : ℕ) → suc k < places n → 10 ^ suc k ≤ n
-places-fewest k n h =
+pub digitCount-fewest : (k n : ℕ) → suc k < digitCount n → 10 ^ suc k ≤ n
+digitCount-fewest k n h =
     elim (decLt n (10 ^ suc k)) [
-      | yes l ↦ absurd (omega (arith, places-most k n l))
+      | yes l ↦ absurd (omega (arith, digitCount-most k n l))
       | no l ↦ omega arith
     ]
 
 -- between two powers of ten it has as many as the higher one has zeros
-pub places-exact : (k n : ℕ) → 10 ^ k ≤ n → n < 10 ^ suc k → suc k ≡ places n
-places-exact k n h i =
-    elim (decLt (places n) (suc k)) [
-      | yes l ↦ absurd (omega (arith, places-hold k n (omega arith)))
-      | no l ↦ omega (arith, places-most k n i)
+pub digitCount-exact : (k n : ℕ) → 10 ^ k ≤ n → n < 10 ^ suc k → suc k ≡ digitCount n
+digitCount-exact k n h i =
+    elim (decLt (digitCount n) (suc k)) [
+      | yes l ↦ absurd (omega (arith, digitCount-hold k n (omega arith)))
+      | no l ↦ omega (arith, digitCount-most k n i)
     ]
 
 -- the last digit goes first, then the k before it
@@ -95,15 +95,15 @@ pub tenth-first : (k n : ℕ) → n / 10 ^ suc k ≡ n / 10 / 10 ^ k
 tenth-first k n = rw (pow-succ' 10 k) (sym (div-div-eq-div-mul n 10 (10 ^ k)))
 
 -- ---- the count of the code, a digit at a time
-module _ (k n rest : ℕ) (e : k + places rest ≡ 1 + places n) where
-  pub count-next : 9 < rest → k + 1 + places (rest / 10) ≡ 1 + places n
-  count-next h = omega (arith, places-high rest (omega arith))
+module _ (k n rest : ℕ) (e : k + digitCount rest ≡ 1 + digitCount n) where
+  pub count-next : 9 < rest → k + 1 + digitCount (rest / 10) ≡ 1 + digitCount n
+  count-next h = omega (arith, digitCount-high rest (omega arith))
 
-  pub count-last : rest ≤ 9 → k ≡ places n
-  count-last h = omega (arith, places-low rest (omega arith))
+  pub count-last : rest ≤ 9 → k ≡ digitCount n
+  count-last h = omega (arith, digitCount-low rest (omega arith))
 
   pub count-fits : Fits w64 n → 9 < rest → Fits w64 (k + 1)
-  count-fits f h = omega (arith, places-high rest (omega arith), places-most 19 n (omega (arith, f .fits)))
+  count-fits f h = omega (arith, digitCount-high rest (omega arith), digitCount-most 19 n (omega (arith, f .fits)))
 
 -- ---- the digits of the code, the last one first
 pub digits-length : (k n : ℕ) → length (digits k n) ≡ k
@@ -111,9 +111,9 @@ unfolding digits
 digits-length zero n = refl
 digits-length (suc k) n = omega (arith, length-append (digits k (n / 10)) ((48 + n % 10) ∷ []), digits-length k (n / 10))
 
-pub decimal-length : (n : ℕ) → length (decimal n) ≡ places n
+pub decimal-length : (n : ℕ) → length (decimal n) ≡ digitCount n
 unfolding decimal
-decimal-length n = digits-length (places n) n
+decimal-length n = digits-length (digitCount n) n
 
 last-digit : (l : List ℕ) (at k n : ℕ) → sets l at (digits (suc k) n) ≡ sets (set l (at + k) (48 + n % 10)) at (digits k (n / 10))
 unfolding digits
@@ -168,7 +168,7 @@ module _ (l : List ℕ) (at k n : ℕ) where
         record { bytes = rw g at (sym (last-digit m at 0 rest) ∙ rw f at e); next = ap (λ (j : ℕ). at + j) (sym (digits-length k n)) }
 
 -- as many digits as the number has
-module _ (l m : List ℕ) (at k n r : ℕ) (e : k ≡ places n) where
+module _ (l m : List ℕ) (at k n r : ℕ) (e : k ≡ digitCount n) where
   pub decimal-room : Room l at (decimal n) → Room l at (digits k n)
   unfolding decimal
   decimal-room h = rw e h

@@ -12,10 +12,10 @@ use mir.Val.{Fits}
 use Rattle.whole.proofs.Branch.{by-test}
 use Rattle.text.specs.Text.{digits, decimal, pointed, sign, amount}
 use Rattle.text.specs.Room.{Room}
-use Rattle.text.proofs.Digits.{places-most, digits-length, decimal-length}
+use Rattle.text.proofs.Digits.{digitCount-most, digits-length, decimal-length}
 
 pub decimal-most : (k n : ℕ) → n < 10 ^ suc k → length (decimal n) ≤ suc k
-decimal-most k n h = rw (decimal-length n) (places-most k n h)
+decimal-most k n h = rw (decimal-length n) (digitCount-most k n h)
 
 pointed-most : (d k n : ℕ) → n < 10 ^ suc k → length (pointed d n) ≤ 2 + k + d
 unfolding pointed

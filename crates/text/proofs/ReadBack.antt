@@ -8,9 +8,9 @@ use mathlib.Core.Bool.{false}
 use mathlib.Core.List.{List, [], _∷_, _++_}
 use borrow.Author.Tests.{le-leb, le-ltb, ne-eqb}
 use lib.IntN.{ℤ, pos, negsuc}
-use Rattle.text.specs.Text.{ascii, digits, places, decimal, pointed, sign, amount, signed, plain}
+use Rattle.text.specs.Text.{ascii, digits, digitCount, decimal, pointed, sign, amount, signed, plain}
 use Rattle.text.specs.Read.{spelled, minus, amountRead}
-use Rattle.text.proofs.Digits.{places-hold, tenth-first}
+use Rattle.text.proofs.Digits.{digitCount-hold, tenth-first}
 
 -- ---- a text behind a text
 spelled-append : (n : ℕ) (xs ys : List ℕ) → spelled n (xs ++ ys) ≡ spelled (spelled n xs) ys
@@ -40,7 +40,7 @@ minus-digits (suc k) n = minus-append (digits k (n / 10)) _ (minus-digits k (n /
 
 pub decimal-back : (n : ℕ) → spelled 0 (decimal n) ≡ n
 unfolding decimal
-decimal-back n = ap (λ (m : ℕ). spelled m (decimal n)) (sym (div-eq-of-lt (places-hold (places n) n (omega arith)))) ∙ digits-back (places n) n
+decimal-back n = ap (λ (m : ℕ). spelled m (decimal n)) (sym (div-eq-of-lt (digitCount-hold (digitCount n) n (omega arith)))) ∙ digits-back (digitCount n) n
 
 -- ---- amounts
 module _ (d n : ℕ) where

@@ -20,16 +20,16 @@ unfoldable pub digits : ℕ → ℕ → List ℕ
 digits zero n = []
 digits (suc k) n = digits k (n / 10) ++ ((48 + n % 10) ∷ [])
 
--- how many digits n has, looked for in at most so many steps; n steps are always enough
-unfoldable pub placesIn : ℕ → ℕ → ℕ
-placesIn zero n = 1
-placesIn (suc f) n = cond (ltb n 10) 1 (1 + placesIn f (n / 10))
+-- how many digits n has, counted in at most the given number of steps; n steps are always enough
+unfoldable pub digitCountIn : ℕ → ℕ → ℕ
+digitCountIn zero n = 1
+digitCountIn (suc f) n = cond (ltb n 10) 1 (1 + digitCountIn f (n / 10))
 
-abbrev pub places : ℕ → ℕ
-places n = placesIn n n
+abbrev pub digitCount : ℕ → ℕ
+digitCount n = digitCountIn n n
 
 unfoldable pub decimal : ℕ → List ℕ
-decimal n = digits (places n) n
+decimal n = digits (digitCount n) n
 
 -- n units of which 10 ^ d make a whole one: the whole ones, the point, and d decimals
 unfoldable pub pointed : ℕ → ℕ → List ℕ

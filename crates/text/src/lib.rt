@@ -1,15 +1,17 @@
-// Numbers and words as text, at a place of the lent bytes. Each writer answers the place behind what it wrote. A tool, as `whole` is: its functions ask
-// for room, and each of their callers is seen to have it.
+// Numbers and words as text in the lent bytes, from an offset on. Each writer answers the offset
+// after what it wrote. A tool, as `whole` is: its functions ask for room, and every caller is proved
+// to have it.
 use whole::Whole;
 ghost use mathlib.Core.Path.{_≡_};
 ghost use mathlib.Core.List.{_++_};
 ghost use Prim.Native.Nat.{_/_, _^_, _<_};
 ghost use Rattle.text.specs.Text.{ascii, digits, decimal, sign, amount};
-ghost use Rattle.text.specs.Text.{places as Text·places};
+ghost use Rattle.text.specs.Text.{digitCount};
 ghost use Rattle.text.specs.Room.{Room, Put};
 
 mod pairs;
 
+// A text, byte by byte.
 pub fn put(out: &mut [u8], at: usize, text: &[u8]) -> usize
     requires { ⌜ Room (now out) at (now text) ⌝ }
     ensures { λ r. ⌜ Put (now (out .entry)) at (now (text .entry)) (now (out .exit)) r ⌝ }
@@ -23,8 +25,8 @@ pub fn put(out: &mut [u8], at: usize, text: &[u8]) -> usize
 }
 
 // How many digits a number has, counted one by one.
-fn long_places(n: u64) -> usize
-    ensures { λ r. ⌜ r ≡ Text·places n ⌝ }
+fn long_digit_count(n: u64) -> usize
+    ensures { λ r. ⌜ r ≡ digitCount n ⌝ }
 {
     let mut k: usize = 1;
     let mut rest = n;
@@ -35,9 +37,9 @@ fn long_places(n: u64) -> usize
     k
 }
 
-// The same of a number of 32 bits, by comparisons, where each digit takes a division above.
-fn places(n: u32) -> usize
-    ensures { λ r. ⌜ r ≡ Text·places n ⌝ }
+// How many digits a number of 32 bits has, by comparisons: no digit takes a division.
+fn digit_count(n: u32) -> usize
+    ensures { λ r. ⌜ r ≡ digitCount n ⌝ }
 {
     if n < 10 {
         return 1;
@@ -84,7 +86,8 @@ pub fn put_digits(out: &mut [u8], at: usize, n: u64, k: usize) -> usize
     at + k
 }
 
-// The same of a number of 32 bits, two digits a turn: nearly every number of a sheet is one, and one by one they were two thirds of what its text costs.
+// The last k digits of a number of 32 bits, two digits a turn. Nearly every number of a sheet is
+// one, and this halves the divisions.
 fn put_pairs(out: &mut [u8], at: usize, n: u32, k: usize) -> usize
     requires { ⌜ Room (now out) at (digits k n) ⌝ }
     ensures { λ r. ⌜ Put (now (out .entry)) at (digits k n) (now (out .exit)) r ⌝ }
@@ -105,31 +108,35 @@ fn put_pairs(out: &mut [u8], at: usize, n: u32, k: usize) -> usize
     at + k
 }
 
+// A number with all its digits and no others.
 pub fn put_decimal(out: &mut [u8], at: usize, n: u64) -> usize
     requires { ⌜ Room (now out) at (decimal n) ⌝ }
     ensures { λ r. ⌜ Put (now (out .entry)) at (decimal n) (now (out .exit)) r ⌝ }
 {
     if n < 4294967296 {
         let short = n as u32;
-        return put_pairs(out, at, short, places(short));
+        return put_pairs(out, at, short, digit_count(short));
     }
-    put_digits(out, at, n, long_places(n))
+    put_digits(out, at, n, long_digit_count(n))
 }
 
 // A number of units of which `unit` make a whole one, with d decimals.
 fn put_pointed(out: &mut [u8], at: usize, n: u64, d: usize, unit: u64) -> usize
     requires { ⌜ 0 < unit ⌝ }
     requires { ⌜ Room (now out) at (decimal (n / unit) ++ ascii "." ++ digits d n) ⌝ }
-    ensures { λ r. ⌜ Put (now (out .entry)) at (decimal (n / unit) ++ ascii "." ++ digits d n) (now (out .exit)) r ⌝ }
+    ensures { λ r. ⌜ Put (now (out .entry)) at (decimal (n / unit) ++ ascii "." ++ digits d n)
+        (now (out .exit)) r ⌝ }
 {
     let i = put_decimal(out, at, n / unit);
     let j = put(out, i, b".");
     put_digits(out, j, n, d)
 }
 
+// The minus of a negative amount, or `plus`.
 fn put_sign(out: &mut [u8], at: usize, plus: &[u8], z: Whole) -> usize
     requires { ⌜ Room (now out) at (sign (now plus) (z .v)) ⌝ }
-    ensures { λ r. ⌜ Put (now (out .entry)) at (sign (now (plus .entry)) (z .v)) (now (out .exit)) r ⌝ }
+    ensures { λ r. ⌜ Put (now (out .entry)) at (sign (now (plus .entry)) (z .v))
+        (now (out .exit)) r ⌝ }
 {
     if z.below_zero() {
         return put(out, at, b"-");
@@ -137,11 +144,13 @@ fn put_sign(out: &mut [u8], at: usize, plus: &[u8], z: Whole) -> usize
     put(out, at, plus)
 }
 
-// The same of an amount, behind its sign; `plus` stands before one that is not negative.
+// An amount of units of which `unit` make a whole one, with d decimals, after its sign; `plus`
+// stands before one that is not negative.
 pub fn put_amount(out: &mut [u8], at: usize, plus: &[u8], z: Whole, d: usize, unit: u64) -> usize
     requires { ⌜ unit ≡ 10 ^ d ⌝ }
     requires { ⌜ Room (now out) at (amount (now plus) d (z .v)) ⌝ }
-    ensures { λ r. ⌜ Put (now (out .entry)) at (amount (now (plus .entry)) d (z .v)) (now (out .exit)) r ⌝ }
+    ensures { λ r. ⌜ Put (now (out .entry)) at (amount (now (plus .entry)) d (z .v))
+        (now (out .exit)) r ⌝ }
 {
     let i = put_sign(out, at, plus, z);
     put_pointed(out, i, z.size(), d, unit)

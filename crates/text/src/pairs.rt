@@ -1,5 +1,5 @@
-// The two digits of each number below 100, as bytes of text: the first digit in the lower byte of the answer, the second in the upper. They stand in a match,
-// since one whose arms are numbers is compiled to a table in memory; with an arm for what is not asked, it is read without a test.
+// The two digits of each number below 100, as bytes of text: the first digit in the lower byte of
+// the answer, the second in the upper.
 ghost use mathlib.Core.Path.{_≡_};
 ghost use Prim.Native.Nat.{_+_, _*_, _/_, _%_, _<_};
 

@@ -15,39 +15,39 @@ use Rattle.sines.specs.Sine.{entryIn}
 use Rattle.desk.specs.declared.Answer.{Answer}
 use Rattle.desk.specs.declared.Figures.{Figures}
 use Rattle.desk.specs.declared.Answer.the-variants.{Refused, Adjusted}
-use Rattle.desk.specs.Answer.{Told, told, traversedBy}
+use Rattle.desk.specs.Answer.{ToldTraverse, toldTraverse, traversedBy}
 use Rattle.desk.proofs.Accepted.{accepted, accepted-sized}
 use Rattle.vastrudhil.specs.Face.{TellsTraverse, figuresOf, values}
 
 -- ---- of a refusal, and of an adjusted traverse
-pub refused-figures : (a : Answer) (n p : ℕ) → a ≡ Refused n p → pos 0 ∷ pos 0 ∷ pos 0 ∷ pos 0 ∷ pos 0 ∷ pos 0 ∷ pos 0 ∷ [] ≡ figuresOf (told a)
+pub refused-figures : (a : Answer) (n p : ℕ) → a ≡ Refused n p → pos 0 ∷ pos 0 ∷ pos 0 ∷ pos 0 ∷ pos 0 ∷ pos 0 ∷ pos 0 ∷ [] ≡ figuresOf (toldTraverse a)
 unfolding figuresOf
 refused-figures a n p e = rw e
 
 module _ (a : Answer) (f : Figures) (is : a ≡ Adjusted f) where
-  pub legs-fit : told a .legs < 2 ^ 63 → f .legs < 2 ^ 63
+  pub legs-fit : toldTraverse a .legs < 2 ^ 63 → f .legs < 2 ^ 63
   legs-fit h = rw is at h
 
-  pub precision-fits : told a .precision < 2 ^ 63 → f .precision < 2 ^ 63
+  pub precision-fits : toldTraverse a .precision < 2 ^ 63 → f .precision < 2 ^ 63
   precision-fits h = rw is at h
 
   pub adjusted-figures : (x y z : Whole) → x .v ≡ pos (f .legs) → y .v ≡ pos (f .precision) → z .v ≡ passes (f .looped)
-      → values (x ∷ f .w ∷ f .north ∷ f .east ∷ y ∷ f .area ∷ z ∷ []) ≡ figuresOf (told a)
+      → values (x ∷ f .w ∷ f .«north_closure» ∷ f .«east_closure» ∷ y ∷ f .area ∷ z ∷ []) ≡ figuresOf (toldTraverse a)
   unfolding figuresOf values
   adjusted-figures x y z g h i = rw (is, g, h, i)
 
 -- ---- they fit
-sized : (e : ℕ → ℤ) → Entries e → (tape : List ℕ) (room : ℕ) (a : Answer) → told a ≡ traversedBy e tape room → (told a .legs ≤ 64) × (told a .precision ≤ 1300000000)
+sized : (e : ℕ → ℤ) → Entries e → (tape : List ℕ) (room : ℕ) (a : Answer) → toldTraverse a ≡ traversedBy e tape room → (toldTraverse a .legs ≤ 64) × (toldTraverse a .precision ≤ 1300000000)
 sized e entries tape room (Refused n p) h = (omega arith, omega arith)
 sized e entries tape room (Adjusted f) h =
-    let s = accepted-sized e tape room entries (accepted e tape room (ap (λ (t : Told). t .number) (sym h))) in
-    (omega (arith, ap (λ (t : Told). t .legs) h, s .legs), omega (arith, ap (λ (t : Told). t .precision) h, s .precision))
+    let s = accepted-sized e tape room entries (accepted e tape room (ap (λ (t : ToldTraverse). t .number) (sym h))) in
+    (omega (arith, ap (λ (t : ToldTraverse). t .legs) h, s .legs), omega (arith, ap (λ (t : ToldTraverse). t .precision) h, s .precision))
 
 module _ (tape : List ℕ) (room : ℕ) (a : Answer) where
-  pub own-fits : told a ≡ traversedBy entry tape room → (told a .legs < 2 ^ 63) × (told a .precision < 2 ^ 63)
+  pub own-fits : toldTraverse a ≡ traversedBy entry tape room → (toldTraverse a .legs < 2 ^ 63) × (toldTraverse a .precision < 2 ^ 63)
   own-fits h = let s = sized entry rule-entries tape room a h in (omega arith, omega arith)
 
-  pub lent-fits : (t : List ℕ) → told a ≡ traversedBy (entryIn t) tape room → (told a .legs < 2 ^ 63) × (told a .precision < 2 ^ 63)
+  pub lent-fits : (t : List ℕ) → toldTraverse a ≡ traversedBy (entryIn t) tape room → (toldTraverse a .legs < 2 ^ 63) × (toldTraverse a .precision < 2 ^ 63)
   lent-fits t h = let s = sized (entryIn t) (lent-entries t) tape room a h in (omega arith, omega arith)
 
 -- ---- stored one after the other
@@ -77,9 +77,9 @@ module _ (all : List Whole) (room : length all ≡ 7) where
   stored-all k l h r e = sym (take-all k l (omega arith)) ∙ e ∙ take-all k (values all) (omega (arith, values-length all))
 
 -- ---- and told
-module _ (a : Answer) (all : List Whole) (l : List ℤ) (is : values all ≡ figuresOf (told a)) (stored : l ≡ values all) where
-  pub tells-refused : (n p : ℕ) → a ≡ Refused n p → TellsTraverse (told a) p l n
+module _ (a : Answer) (all : List Whole) (l : List ℤ) (is : values all ≡ figuresOf (toldTraverse a)) (stored : l ≡ values all) where
+  pub tells-refused : (n p : ℕ) → a ≡ Refused n p → TellsTraverse (toldTraverse a) p l n
   tells-refused n p e = record { number = rw e; place = rw e; figures = stored ∙ is }
 
-  pub tells-adjusted : (f : Figures) → a ≡ Adjusted f → TellsTraverse (told a) 0 l 0
+  pub tells-adjusted : (f : Figures) → a ≡ Adjusted f → TellsTraverse (toldTraverse a) 0 l 0
   tells-adjusted f e = record { number = rw e; place = rw e; figures = stored ∙ is }

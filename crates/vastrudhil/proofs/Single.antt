@@ -6,17 +6,17 @@ use mathlib.Core.Bool.{Bool}
 use mathlib.Core.List.{List}
 use lib.ListN.{length}
 use lib.IntN.{ℤ, natAbs}
-use Rattle.answer.specs.Told.{Told}
+use Rattle.answer.specs.Told.{ToldStep}
 use Rattle.answer.proofs.Telling.{one-flag}
 use Rattle.minutes.specs.Entry.{Table}
 use Rattle.minutes.proofs.Single as minutes
 use Rattle.records.specs.declared.Record.{Record}
-use Rattle.tape.specs.Tape.{Told as Tape·Told}
+use Rattle.tape.specs.Tape.{ToldReading}
 use Rattle.desk.specs.Answer.{traversedBy, traversedWordsBy}
-use Rattle.vastrudhil.specs.Face.{TellsAmount, TellsCount, TellsVerdict, Writes, TellsReading, TellsTraverse, Shows}
+use Rattle.vastrudhil.specs.Face.{TellsAmount, TellsCount, TellsVerdict, WritesRecord, TellsReading, TellsTraverse, ShowsSheet}
 
 -- ---- every arithmetic step, by what is stored of it
-module _ (t : Told) (m n : ℕ) where
+module _ (t : ToldStep) (m n : ℕ) where
   -- `vas_sine`, `vas_cosine`, `vas_sine_in`, `vas_cosine_in`, `vas_misclosure`, `vas_angle_share`,
   -- `vas_latitude`, `vas_departure`, `vas_latitude_in`, `vas_departure_in`, `vas_share` and
   -- `vas_doubled_area`
@@ -38,7 +38,7 @@ table-single = minutes.table-single
 
 -- ---- the writers: `vas_write_row`, `vas_write_project`, `vas_write_start`, `vas_write_leg` and
 -- `vas_write_close`
-pub write-single : (given : Record) (out : List ℕ) (at : ℕ) (l m : List ℕ) (p q n p′ q′ n′ : ℕ) → Writes given out at l p q n → Writes given out at m p′ q′ n′
+pub write-single : (given : Record) (out : List ℕ) (at : ℕ) (l m : List ℕ) (p q n p′ q′ n′ : ℕ) → WritesRecord given out at l p q n → WritesRecord given out at m p′ q′ n′
     → (n ≡ n′) × (p ≡ p′) × (q ≡ q′) × (l ≡ m)
 write-single given out at l m p q n p′ q′ n′ x y =
     let s = x .tells in
@@ -47,7 +47,7 @@ write-single given out at l m p q n p′ q′ n′ x y =
 
 -- ---- the reading, the traverse and the sheet, the last two by any table of sines
 -- `vas_read`
-pub read-single : {A : Type 0} (t : Tape·Told A) (p n q m : ℕ) → TellsReading t p n
+pub read-single : {A : Type 0} (t : ToldReading A) (p n q m : ℕ) → TellsReading t p n
     → TellsReading t q m → (n ≡ m) × (p ≡ q)
 read-single t p n q m x y = (x .number ∙ sym (y .number), x .place ∙ sym (y .place))
 
@@ -61,9 +61,9 @@ traverse-single e tape words a b k l p n q m x f y g =
     (x .number ∙ sym (y .number), x .place ∙ sym (y .place), figures, f ∙ sym g)
 
 -- `vas_sheet` and `vas_sheet_in`
-pub sheet-single : (e : ℕ → ℤ) (tape out l m : List ℕ) (p q n p′ q′ n′ : ℕ) → Shows e tape out l p q n → Shows e tape out m p′ q′ n′
+pub sheet-single : (e : ℕ → ℤ) (tape out l m : List ℕ) (p q n p′ q′ n′ : ℕ) → ShowsSheet e tape out l p q n → ShowsSheet e tape out m p′ q′ n′
     → (n ≡ n′) × (p ≡ p′) × (q ≡ q′) × (l ≡ m)
 sheet-single e tape out l m p q n p′ q′ n′ x y =
     let s = x .tells in
     let t = y .tells in
-    (s .number ∙ sym (t .number), s .place ∙ sym (t .place), s .length ∙ sym (t .length), x .left ∙ sym (y .left))
+    (s .number ∙ sym (t .number), s .place ∙ sym (t .place), s .used ∙ sym (t .used), x .left ∙ sym (y .left))

@@ -5,7 +5,7 @@ use mathlib.Core.Bool.{Bool, true, false}
 use mathlib.Core.List.{List}
 use lib.IntN.{ℤ, pos}
 use Rattle.whole.specs.declared.Whole.{Whole}
-use Rattle.answer.specs.Told.{Told, told, toldCount, toldVerdict}
+use Rattle.answer.specs.Told.{ToldStep, toldAmount, toldCount, toldVerdict}
 use Rattle.answer.specs.declared.Amount.{Amount}
 use Rattle.answer.specs.declared.Amount.the-variants as amount
 use Rattle.answer.specs.declared.Count.{Count}
@@ -17,22 +17,22 @@ use Rattle.records.specs.declared.Record.the-variants.{Project}
 use Rattle.writer.specs.declared.Written.{Written}
 use Rattle.records.specs.Record.{goodRecord, bytesOfRecord}
 use Rattle.tape.specs.declared.Taken.{Taken}
-use Rattle.tape.specs.Tape.{readingOf, told as Tape·told}
+use Rattle.tape.specs.Tape.{readingOf, toldReading}
 use Rattle.tape.specs.Fields.{takenOf, toldTaken}
 use Rattle.tape.proofs.Standing.{taken-tells}
-use Rattle.writer.specs.Write.{Wrote, told as Write·told}
-use Rattle.desk.specs.Answer.{Told as Desk·Told}
+use Rattle.writer.specs.Write.{Wrote, toldWritten}
+use Rattle.desk.specs.Answer.{ToldTraverse}
 use Rattle.desk.specs.declared.Page.{Page}
-use Rattle.desk.specs.Sheet.{Showed, told as Page·told}
-use Rattle.vastrudhil.specs.Face.{TellsAmount, TellsCount, TellsVerdict, TellsWritten, Writes, TellsReading, TellsTraverse, TellsPage, Shows}
+use Rattle.desk.specs.Sheet.{Showed, toldSheet}
+use Rattle.vastrudhil.specs.Face.{TellsAmount, TellsCount, TellsVerdict, TellsWritten, WritesRecord, TellsReading, TellsTraverse, TellsPage, ShowsSheet}
 
 -- ---- the cases
-pub amount-is : (a : Amount) (z : Whole) (v : ℤ) → a ≡ amount.Is z → v ≡ z .v → TellsAmount (told a) v 0
-unfolding told
+pub amount-is : (a : Amount) (z : Whole) (v : ℤ) → a ≡ amount.Is z → v ≡ z .v → TellsAmount (toldAmount a) v 0
+unfolding toldAmount
 amount-is a z v e f = rw e (record { number = refl; value = f })
 
-pub amount-out : (a : Amount) → a ≡ amount.OutOfRange → TellsAmount (told a) (pos 0) 4
-unfolding told
+pub amount-out : (a : Amount) → a ≡ amount.OutOfRange → TellsAmount (toldAmount a) (pos 0) 4
+unfolding toldAmount
 amount-out a e = rw e (record { number = refl; value = refl })
 
 pub count-is : (a : Count) (n : ℕ) → a ≡ count.Is n → TellsCount (toldCount a) n 0
@@ -56,7 +56,7 @@ unfolding toldVerdict
 verdict-out a e = rw e (record { number = refl; value = refl })
 
 -- ---- as the promise says
-module _ (s t : Told) (n : ℕ) where
+module _ (s t : ToldStep) (n : ℕ) where
   pub amount-as : (v : ℤ) → TellsAmount s v n → s ≡ t → TellsAmount t v n
   amount-as v h e = rw (← e) h
 
@@ -68,7 +68,7 @@ module _ (s t : Told) (n : ℕ) where
 
 -- a reading by what was taken of the tape
 pub reading-as : (tape : List ℕ) (a : Taken) (p n : ℕ) → a ≡ takenOf tape
-    → TellsReading (toldTaken a) p n → TellsReading (Tape·told (readingOf tape)) p n
+    → TellsReading (toldTaken a) p n → TellsReading (toldReading (readingOf tape)) p n
 reading-as tape a p n e h =
     let t = taken-tells tape in
     record {
@@ -76,17 +76,17 @@ reading-as tape a p n e h =
       place = h .place ∙ ap (λ (x : Taken). toldTaken x .place) e ∙ t .1;
     }
 
-pub traverse-as : (s t : Desk·Told) (p : ℕ) (l : List ℤ) (n : ℕ) → TellsTraverse s p l n → s ≡ t → TellsTraverse t p l n
+pub traverse-as : (s t : ToldTraverse) (p : ℕ) (l : List ℤ) (n : ℕ) → TellsTraverse s p l n → s ≡ t → TellsTraverse t p l n
 traverse-as s t p l n h e = rw (← e) h
 
 pub writes-as : (given : Record) (out : List ℕ) (at : ℕ) (out′ : List ℕ) (a : Written) (p q n : ℕ) → Wrote out out′ at (goodRecord given) (bytesOfRecord given) a
-    → TellsWritten (Write·told a) p q n → Writes given out at out′ p q n
+    → TellsWritten (toldWritten a) p q n → WritesRecord given out at out′ p q n
 writes-as given out at out′ a p q n w h = record { tells = rw (← w .tells) h; left = w .left }
 
 -- a project whose elevation came as a caller's number
-pub project-as : {latitude : ℕ} {x y : ℤ} {out : List ℕ} {at : ℕ} {out′ : List ℕ} {p q n : ℕ} → x ≡ y → Writes (Project latitude (record { v = x })) out at out′ p q n
-    → Writes (Project latitude (record { v = y })) out at out′ p q n
+pub project-as : {latitude : ℕ} {x y : ℤ} {out : List ℕ} {at : ℕ} {out′ : List ℕ} {p q n : ℕ} → x ≡ y → WritesRecord (Project latitude (record { v = x })) out at out′ p q n
+    → WritesRecord (Project latitude (record { v = y })) out at out′ p q n
 project-as e h = rw (← e) h
 
-pub shows-as : (e : ℕ → ℤ) (tape out out′ : List ℕ) (a : Page) (p q n : ℕ) → Showed e tape out out′ a → TellsPage (Page·told a) p q n → Shows e tape out out′ p q n
+pub shows-as : (e : ℕ → ℤ) (tape out out′ : List ℕ) (a : Page) (p q n : ℕ) → Showed e tape out out′ a → TellsPage (toldSheet a) p q n → ShowsSheet e tape out out′ p q n
 shows-as e tape out out′ a p q n s h = record { tells = rw (← s .tells) h; left = s .left }

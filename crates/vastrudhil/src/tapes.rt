@@ -7,15 +7,15 @@ ghost use lib.ListN.{length};
 ghost use Rattle.minutes.specs.Entry.{entry};
 ghost use Rattle.sines.specs.Sine.{entryIn};
 ghost use Rattle.tape.specs.Tape.{readingOf};
-ghost use Rattle.tape.specs.Tape.{told as Tape·told};
+ghost use Rattle.tape.specs.Tape.{toldReading};
 ghost use Rattle.desk.specs.Answer.{traversed, traversedWords, traversedBy, traversedWordsBy};
-ghost use Rattle.vastrudhil.specs.Face.{TellsReading, TellsTraverse, Shows};
+ghost use Rattle.vastrudhil.specs.Face.{TellsReading, TellsTraverse, ShowsSheet};
 
 // The reading, by refusals 2 to 7: by `take`, as the traverse and the sheet read, so that the
 // reading is compiled once.
 #[no_mangle]
 pub extern "C" fn vas_read(tape: &[u8], place: &mut usize) -> u32
-    ensures { λ r. ⌜ TellsReading (Tape·told (readingOf (now (tape .entry))))
+    ensures { λ r. ⌜ TellsReading (toldReading (readingOf (now (tape .entry))))
         (now (place .exit)) r ⌝ }
 {
     tell::reading(tape::take(tape), place)
@@ -61,7 +61,7 @@ pub extern "C" fn vas_traverse_in(
 // The sheet, its text in the caller's bytes.
 #[no_mangle]
 pub extern "C" fn vas_sheet(tape: &[u8], out: &mut [u8], place: &mut usize, used: &mut usize) -> u32
-    ensures { λ r. ⌜ Shows entry (now (tape .entry)) (now (out .entry)) (now (out .exit))
+    ensures { λ r. ⌜ ShowsSheet entry (now (tape .entry)) (now (out .entry)) (now (out .exit))
         (now (place .exit)) (now (used .exit)) r ⌝ }
 {
     tell::page(desk::sheet(tape, out), place, used)
@@ -76,7 +76,7 @@ pub extern "C" fn vas_sheet_in(
     place: &mut usize,
     used: &mut usize,
 ) -> u32
-    ensures { λ r. ⌜ Shows (entryIn (now (table .entry))) (now (tape .entry))
+    ensures { λ r. ⌜ ShowsSheet (entryIn (now (table .entry))) (now (tape .entry))
         (now (out .entry)) (now (out .exit))
         (now (place .exit)) (now (used .exit)) r ⌝ }
 {

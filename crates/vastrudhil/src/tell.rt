@@ -13,11 +13,11 @@ use writer::Written;
 ghost use mathlib.Core.Path.{_≡_};
 ghost use Prim.Native.Nat.{_^_, _<_};
 ghost use lib.ListN.{set};
-ghost use Rattle.answer.specs.Told.{told, toldCount, toldVerdict, passes};
+ghost use Rattle.answer.specs.Told.{toldAmount, toldCount, toldVerdict, passes};
 ghost use Rattle.tape.specs.Fields.{toldTaken};
-ghost use Rattle.writer.specs.Write.{told as Write·told};
-ghost use Rattle.desk.specs.Answer.{told as Answer·told};
-ghost use Rattle.desk.specs.Sheet.{told as Page·told};
+ghost use Rattle.writer.specs.Write.{toldWritten};
+ghost use Rattle.desk.specs.Answer.{toldTraverse};
+ghost use Rattle.desk.specs.Sheet.{toldSheet};
 ghost use Rattle.vastrudhil.specs.Face.{TellsAmount, TellsCount, TellsVerdict};
 ghost use Rattle.vastrudhil.specs.Face.{TellsWritten, TellsReading, TellsPage};
 ghost use Rattle.vastrudhil.specs.Face.{figureCount, figuresOf, values, TellsTraverse};
@@ -30,7 +30,7 @@ fn store(value: &mut i64, z: Whole)
 }
 
 pub fn amount(a: Amount, value: &mut i64) -> u32
-    ensures { λ r. ⌜ TellsAmount (told a) (now (value .exit)) r ⌝ }
+    ensures { λ r. ⌜ TellsAmount (toldAmount a) (now (value .exit)) r ⌝ }
 {
     match a {
         Amount::Is(z) => {
@@ -79,7 +79,7 @@ pub fn verdict(a: Verdict, value: &mut bool) -> u32
 }
 
 pub fn written(a: Written, place: &mut usize, next: &mut usize) -> u32
-    ensures { λ r. ⌜ TellsWritten (Write·told a) (now (place .exit)) (now (next .exit)) r ⌝ }
+    ensures { λ r. ⌜ TellsWritten (toldWritten a) (now (place .exit)) (now (next .exit)) r ⌝ }
 {
     match a {
         Written::Until(n) => {
@@ -122,8 +122,8 @@ fn flag(b: bool) -> Whole
 
 // The figures of an answer, zeros for a refusal.
 fn figures_of(a: Answer) -> [Whole; FIGURES]
-    requires { ⌜ (Answer·told a .legs < 2 ^ 63) × (Answer·told a .precision < 2 ^ 63) ⌝ }
-    ensures { λ r. ⌜ values r ≡ figuresOf (Answer·told a) ⌝ }
+    requires { ⌜ (toldTraverse a .legs < 2 ^ 63) × (toldTraverse a .precision < 2 ^ 63) ⌝ }
+    ensures { λ r. ⌜ values r ≡ figuresOf (toldTraverse a) ⌝ }
 {
     let zero = Whole { v: 0 };
     match a {
@@ -131,8 +131,8 @@ fn figures_of(a: Answer) -> [Whole; FIGURES]
         Answer::Adjusted(f) => {
             let n = Whole::of_size(f.legs as u64);
             let w = f.w;
-            let north = f.north;
-            let east = f.east;
+            let north = f.north_closure;
+            let east = f.east_closure;
             let p = Whole::of_size(f.precision);
             let area = f.area;
             [n, w, north, east, p, area, flag(f.looped)]
@@ -162,8 +162,8 @@ fn words_of(all: [Whole; FIGURES]) -> [i64; FIGURES]
 }
 
 pub fn answer(a: Answer, place: &mut usize, figures: &mut [i64; FIGURES]) -> u32
-    requires { ⌜ (Answer·told a .legs < 2 ^ 63) × (Answer·told a .precision < 2 ^ 63) ⌝ }
-    ensures { λ r. ⌜ TellsTraverse (Answer·told a) (now (place .exit)) (now (figures .exit)) r ⌝ }
+    requires { ⌜ (toldTraverse a .legs < 2 ^ 63) × (toldTraverse a .precision < 2 ^ 63) ⌝ }
+    ensures { λ r. ⌜ TellsTraverse (toldTraverse a) (now (place .exit)) (now (figures .exit)) r ⌝ }
 {
     *figures = words_of(figures_of(a));
     match a {
@@ -179,7 +179,7 @@ pub fn answer(a: Answer, place: &mut usize, figures: &mut [i64; FIGURES]) -> u32
 }
 
 pub fn page(a: Page, place: &mut usize, used: &mut usize) -> u32
-    ensures { λ r. ⌜ TellsPage (Page·told a) (now (place .exit)) (now (used .exit)) r ⌝ }
+    ensures { λ r. ⌜ TellsPage (toldSheet a) (now (place .exit)) (now (used .exit)) r ⌝ }
 {
     match a {
         Page::Text(n) => {

@@ -4,7 +4,7 @@ use crate::tell;
 use records::Record;
 use whole::Whole;
 ghost use Rattle.records.specs.declared.Record.the-variants.{Row, Project, Start, Leg, Close};
-ghost use Rattle.vastrudhil.specs.Face.{Writes};
+ghost use Rattle.vastrudhil.specs.Face.{WritesRecord};
 
 // A row of the zone table.
 #[no_mangle]
@@ -16,7 +16,7 @@ pub extern "C" fn vas_write_row(
     place: &mut usize,
     next: &mut usize,
 ) -> u32
-    ensures { λ r. ⌜ Writes (Row minute factor) (now (out .entry)) at (now (out .exit))
+    ensures { λ r. ⌜ WritesRecord (Row minute factor) (now (out .entry)) at (now (out .exit))
         (now (place .exit)) (now (next .exit)) r ⌝ }
 {
     tell::written(
@@ -36,7 +36,7 @@ pub extern "C" fn vas_write_project(
     place: &mut usize,
     next: &mut usize,
 ) -> u32
-    ensures { λ r. ⌜ Writes (Project latitude (record { v = elevation }))
+    ensures { λ r. ⌜ WritesRecord (Project latitude (record { v = elevation }))
         (now (out .entry)) at (now (out .exit))
         (now (place .exit)) (now (next .exit)) r ⌝ }
 {
@@ -65,8 +65,8 @@ pub extern "C" fn vas_write_start(
     place: &mut usize,
     next: &mut usize,
 ) -> u32
-    ensures { λ r. ⌜ Writes (Start northing easting mark) (now (out .entry)) at (now (out .exit))
-        (now (place .exit)) (now (next .exit)) r ⌝ }
+    ensures { λ r. ⌜ WritesRecord (Start northing easting mark) (now (out .entry)) at
+        (now (out .exit)) (now (place .exit)) (now (next .exit)) r ⌝ }
 {
     tell::written(
         writer::write(
@@ -93,7 +93,7 @@ pub extern "C" fn vas_write_leg(
     place: &mut usize,
     next: &mut usize,
 ) -> u32
-    ensures { λ r. ⌜ Writes (Leg angle distance) (now (out .entry)) at (now (out .exit))
+    ensures { λ r. ⌜ WritesRecord (Leg angle distance) (now (out .entry)) at (now (out .exit))
         (now (place .exit)) (now (next .exit)) r ⌝ }
 {
     tell::written(
@@ -115,7 +115,7 @@ pub extern "C" fn vas_write_close(
     place: &mut usize,
     next: &mut usize,
 ) -> u32
-    ensures { λ r. ⌜ Writes (Close angle northing easting mark)
+    ensures { λ r. ⌜ WritesRecord (Close angle northing easting mark)
         (now (out .entry)) at (now (out .exit))
         (now (place .exit)) (now (next .exit)) r ⌝ }
 {

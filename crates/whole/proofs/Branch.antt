@@ -33,22 +33,9 @@ module _ {A : Type 0} (x y z : A) (a b : ℕ) where
 
 -- a choice by two tests, as one by one
 module _ {A : Type 0} (y z : A) (q : Bool) where
-  pub cond-or : (p : Bool) → cond (p || q) y z ≡ cond p y (cond q y z)
-  cond-or true = refl
-  cond-or false = refl
-
   pub cond-and : (p : Bool) → cond (p && q) y z ≡ cond p (cond q y z) z
   cond-and true = refl
   cond-and false = refl
-
--- a test of two tests, as a choice
-pub or-cond : (p q : Bool) → (p || q) ≡ cond p true q
-or-cond true q = refl
-or-cond false q = refl
-
-pub and-cond : (p q : Bool) → (p && q) ≡ cond p q false
-and-cond true q = refl
-and-cond false q = refl
 
 -- k is n, and n is not m, as two numerals tell
 module _ {A : Type 0} (x y z : A) (k m n : ℕ) where

@@ -1,6 +1,6 @@
-// Whole numbers with a sign, the desk's only signed arithmetic. A signed field of a struct by value is a plain ℤ to the prover, where a bare i64 is
-// its bits: so the amounts of the desk are `Whole`, and nothing above this crate meets bits. Each promise gives the value, and where it helps a
-// linear bound on the size, by which the next call's requirement closes by itself.
+// Whole numbers with a sign, the desk's only signed arithmetic. To the prover the field of a
+// `Whole` is a number of ℤ, where a bare i64 is its bits, so no crate above this one meets bits.
+// Each promise gives the value, and where a caller needs it a bound on the size.
 ghost use mathlib.Core.Path.{_≡_};
 ghost use Prim.Native.Nat.{_+_, _*_, _<_, _≤_, _^_};
 ghost use lib.IntN.{pos, negℤ, natAbs, _+ℤ_, _-ℤ_, _*ℤ_};
@@ -21,7 +21,8 @@ impl Whole {
         Whole { v: n as i64 }
     }
 
-    // The size of any amount. One is added before the sign is turned and again after, since the opposite of the least i64 is no i64.
+    // The size of any amount. One is added before the sign is turned and again after, since the
+    // opposite of the least i64 is no i64.
     pub fn size(self) -> u64
         ensures { λ r. ⌜ r ≡ natAbs (self .v) ⌝ }
     {

@@ -1,4 +1,3 @@
 pub mod Refused
 pub mod Single
-pub mod Stores
 pub mod Ways

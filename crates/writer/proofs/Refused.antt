@@ -10,16 +10,16 @@ use lib.ListN.{length}
 use Rattle.whole.proofs.Branch.{by-test}
 use Rattle.writer.specs.declared.Written.{Written}
 use Rattle.writer.specs.declared.Written.the-variants.{Refused, Until}
-use Rattle.writer.specs.Write.{Wrote, answerOf, leftOf, told}
+use Rattle.writer.specs.Write.{Wrote, answerOf, leftOf, toldWritten}
 
 -- "zeros otherwise": whatever is refused, no next place is told
-none-next : (r : Written) → (told r .number ≡ 0 → ⊥) → told r .next ≡ 0
+none-next : (r : Written) → (toldWritten r .number ≡ 0 → ⊥) → toldWritten r .next ≡ 0
 none-next (Refused n p) some = refl
 none-next (Until n) some = absurd (some refl)
 
 pub refused-nothing : (out left : List ℕ) (place : ℕ) (good : Bool) (bytes : List ℕ) (r : Written)
-    → Wrote out left place good bytes r → (told r .number ≡ 0 → ⊥)
-    → (left ≡ out) × (told r .next ≡ 0)
+    → Wrote out left place good bytes r → (toldWritten r .number ≡ 0 → ⊥)
+    → (left ≡ out) × (toldWritten r .next ≡ 0)
 unfolding answerOf leftOf
 refused-nothing out left place good bytes r w some =
     let Kept : List ℕ → Type 0 = λ l. l ≡ out in

@@ -14,7 +14,7 @@ use borrow.Rule.Slice.PartMut.{putMid}
 use Rattle.records.specs.declared.Record.{Record}
 use Rattle.writer.specs.declared.Written.{Written}
 use Rattle.records.specs.Record.{bytesOfRecord}
-use Rattle.writer.specs.Write.{Wrote, answerOf, leftOf, told}
+use Rattle.writer.specs.Write.{Wrote, answerOf, leftOf, toldWritten}
 use Rattle.writer.specs.declared.Written.the-variants.{Refused, Until}
 
 -- ---- the part from the place on, lent to the writer of the case found
@@ -46,7 +46,7 @@ module _ (given found : Record) (e : given ≡ found) (out : List ℕ) (place : 
 module _ (out : List ℕ) (place : ℕ) (good : Bool) (bytes : List ℕ) where
   owed : {out′ : List ℕ} {r : Written} → r ≡ answerOf out place good bytes
       → out′ ≡ leftOf out place good bytes → Wrote out out′ place good bytes r
-  owed e f = record { answer = e; tells = ap told e; left = f }
+  owed e f = record { answer = e; tells = ap toldWritten e; left = f }
 
   no-room : length out < place + length bytes → Wrote out out place good bytes (Refused 1 0)
   unfolding answerOf leftOf

@@ -26,19 +26,19 @@ leftOf out place good bytes =
     out
 
 -- ---- what is told: number, place and the next place, zeros on a refusal
-pub record Told : Type 0 where
+pub record ToldWritten : Type 0 where
   pub number : ℕ
   pub place : ℕ
   pub next : ℕ
 
-abbrev pub told : Written → Told
-told (Until n) = record { number = 0; place = 0; next = n }
-told (Refused n p) = record { number = n; place = p; next = 0 }
+abbrev pub toldWritten : Written → ToldWritten
+toldWritten (Until n) = record { number = 0; place = 0; next = n }
+toldWritten (Refused n p) = record { number = n; place = p; next = 0 }
 
 -- ---- what a writer owes: r is its answer, tells what the rules say, and out′ is what it leaves of
 -- out
 pub record Wrote (out out′ : List ℕ) (place : ℕ) (good : Bool) (bytes : List ℕ) (r : Written)
     : Type 0 where
   pub answer : r ≡ answerOf out place good bytes
-  pub tells : told r ≡ told (answerOf out place good bytes)
+  pub tells : toldWritten r ≡ toldWritten (answerOf out place good bytes)
   pub left : out′ ≡ leftOf out place good bytes

@@ -5,18 +5,6 @@ use Rattle.desk.proofs.OwnTable.{own-showed, fails-showed}
 use Rattle.desk.proofs.compose.Statement.{statement}
 use Rattle.desk.proofs.compose.Tie as tie
 
-angles-stand-requires : tie.Need-angles-stand-requires
-angles-stand-requires c κs = search needs
-
-table-requires : tie.Need-table-requires
-table-requires c κs = search needs
-
-compose-in-requires : tie.Need-compose-in-requires
-compose-in-requires c κs = search needs
-
-same-length : tie.Need-same-length
-same-length c = search needs
-
 returns : tie.Need-returns
 returns c = search own-showed
 
@@ -27,9 +15,9 @@ pub compose-spec : {M : Type 1} → statement M
 compose-spec =
     tie.close
     (tie.spec
-    angles-stand-requires
-    table-requires
-    compose-in-requires
-    same-length
+    (λ c κs. search needs)
+    (λ c κs. search needs)
+    (λ c κs. search needs)
+    (λ c. search needs)
     returns
     returns-2)

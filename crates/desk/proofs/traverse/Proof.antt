@@ -7,23 +7,11 @@ use Rattle.desk.proofs.traverse.Tie as tie
 returns : tie.Need-returns
 returns c = (search short-told, search short-words)
 
-take-requires : tie.Need-take-requires
-take-requires c κs = search needs
-
-enum-known-taken : tie.Need-enum-known-taken
-enum-known-taken c = search needs
-
-enum-known-taken-2 : tie.Need-enum-known-taken-2
-enum-known-taken-2 c = search needs
-
 work-requires : tie.Need-work-requires
 work-requires c κs = (search known-is, search needs)
 
 returns-2 : tie.Need-returns-2
 returns-2 c = (search refused-told, search refused-words)
-
-same-length : tie.Need-same-length
-same-length c = search needs
 
 returns-3 : tie.Need-returns-3
 returns-3 c = (search good-told, search good-words)
@@ -33,10 +21,10 @@ traverse-spec =
     tie.close
     (tie.spec
     returns
-    take-requires
-    enum-known-taken
-    enum-known-taken-2
+    (λ c κs. search needs)
+    (λ c. search needs)
+    (λ c. search needs)
     work-requires
     returns-2
-    same-length
+    (λ c. search needs)
     returns-3)

@@ -5,18 +5,6 @@ use Rattle.desk.proofs.OwnTable.{own-told, own-words, fails-told, fails
 use Rattle.desk.proofs.work.Statement.{statement}
 use Rattle.desk.proofs.work.Tie as tie
 
-angles-stand-requires : tie.Need-angles-stand-requires
-angles-stand-requires c κs = search needs
-
-table-requires : tie.Need-table-requires
-table-requires c κs = search needs
-
-work-in-requires : tie.Need-work-in-requires
-work-in-requires c κs = search needs
-
-same-length : tie.Need-same-length
-same-length c = search needs
-
 returns : tie.Need-returns
 returns c = (search own-told, search own-words)
 
@@ -27,9 +15,9 @@ pub work-spec : {M : Type 1} → statement M
 work-spec =
     tie.close
     (tie.spec
-    angles-stand-requires
-    table-requires
-    work-in-requires
-    same-length
+    (λ c κs. search needs)
+    (λ c κs. search needs)
+    (λ c κs. search needs)
+    (λ c. search needs)
     returns
     returns-2)

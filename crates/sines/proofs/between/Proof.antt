@@ -6,18 +6,6 @@ use Rattle.sines.proofs.Line.{rise-most, falling, falling-most}
 use Rattle.sines.proofs.between.Statement.{statement}
 use Rattle.sines.proofs.between.Tie as tie
 
-rise-requires : tie.Need-rise-requires
-rise-requires c κs = search needs
-
-returns : tie.Need-returns
-returns c = search needs
-
-sub-half-up : tie.Need-sub-half-up
-sub-half-up c = search needs
-
-cast-half-up : tie.Need-cast-half-up
-cast-half-up c = search needs
-
 mul-half-up : tie.Need-mul-half-up
 mul-half-up c = let s = c .before .args in record { fits = omega (arith, rise-most (s .e - s .f) (s .r) (omega arith) (omega arith)) }
 
@@ -41,10 +29,10 @@ pub between-spec : {M : Type 1} → statement M
 between-spec =
     tie.close
     (tie.spec
-    rise-requires
-    returns
-    sub-half-up
-    cast-half-up
+    (λ c κs. search needs)
+    (λ c. search needs)
+    (λ c. search needs)
+    (λ c. search needs)
     mul-half-up
     half-up-requires
     cast-result

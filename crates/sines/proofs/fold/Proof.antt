@@ -8,9 +8,6 @@ use Rattle.sines.proofs.Quadrants.{first, second, third, fourth}
 use Rattle.sines.proofs.fold.Statement.{statement}
 use Rattle.sines.proofs.fold.Tie as tie
 
-sub-half : tie.Need-sub-half
-sub-half c = search needs
-
 returns : tie.Need-returns
 returns c = (⊎-elim (λ w. w .1 ∙ third _ (w .0 .taken) (omega arith)) (λ w. w .1 ∙ first _ (omega arith)) (c .before .if1 .came), search needs)
 
@@ -29,4 +26,4 @@ returns-2 c =
     )
 
 pub fold-spec : {M : Type 1} → statement M
-fold-spec = tie.close (tie.spec sub-half returns sub-result returns-2)
+fold-spec = tie.close (tie.spec (λ c. search needs) returns sub-result returns-2)

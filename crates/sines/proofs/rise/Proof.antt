@@ -6,12 +6,6 @@ use Rattle.sines.proofs.Line.{rise-most, rising, rising-most}
 use Rattle.sines.proofs.rise.Statement.{statement}
 use Rattle.sines.proofs.rise.Tie as tie
 
-sub-half-up : tie.Need-sub-half-up
-sub-half-up c = search needs
-
-cast-half-up : tie.Need-cast-half-up
-cast-half-up c = search needs
-
 mul-half-up : tie.Need-mul-half-up
 mul-half-up c = let s = c .args in record { fits = omega (arith, rise-most (s .f - s .e) (s .r) (omega arith) (omega arith)) }
 
@@ -34,4 +28,11 @@ returns c = let s = c .before .args in (rw (c .half-up .ensures .0) (rising (s .
 pub rise-spec : {M : Type 1} → statement M
 rise-spec =
     tie.close
-    (tie.spec sub-half-up cast-half-up mul-half-up half-up-requires cast-result add-result returns)
+    (tie.spec
+    (λ c. search needs)
+    (λ c. search needs)
+    mul-half-up
+    half-up-requires
+    cast-result
+    add-result
+    returns)

@@ -7,18 +7,15 @@ use Rattle.sines.proofs.sides_in.Tie as tie
 returns : tie.Need-returns
 returns c = (search no-sides, (search no-angle, search no-angle))
 
-fold-requires : tie.Need-fold-requires
-fold-requires c κs = search needs
-
-both-in-requires : tie.Need-both-in-requires
-both-in-requires c κs = search needs
-
-behind-requires : tie.Need-behind-requires
-behind-requires c κs = search needs
-
 returns-2 : tie.Need-returns-2
 returns-2 c = (search sides-are, (search sine-given, search cosine-given))
 
 pub sides-in-spec : {M : Type 1} → statement M
 sides-in-spec =
-    tie.close (tie.spec returns fold-requires both-in-requires behind-requires returns-2)
+    tie.close
+    (tie.spec
+    returns
+    (λ c κs. search needs)
+    (λ c κs. search needs)
+    (λ c κs. search needs)
+    returns-2)

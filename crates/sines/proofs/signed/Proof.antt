@@ -4,12 +4,6 @@ use Rattle.minutes.specs.Quadrant.{turned}
 use Rattle.sines.proofs.signed.Statement.{statement}
 use Rattle.sines.proofs.signed.Tie as tie
 
-of-size-requires : tie.Need-of-size-requires
-of-size-requires c κs = search needs
-
-opposite-requires : tie.Need-opposite-requires
-opposite-requires c κs = search needs
-
 returns : tie.Need-returns
 unfolding turned
 returns c = (rw (c .before .if1 .taken) (cc), search needs)
@@ -19,4 +13,4 @@ unfolding turned
 returns-2 c = (rw (c .if1 .left) (cc), search needs)
 
 pub signed-spec : {M : Type 1} → statement M
-signed-spec = tie.close (tie.spec of-size-requires opposite-requires returns returns-2)
+signed-spec = tie.close (tie.spec (λ c κs. search needs) (λ c κs. search needs) returns returns-2)

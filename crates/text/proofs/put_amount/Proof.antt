@@ -10,18 +10,18 @@ put-sign-requires : tie.Need-put-sign-requires
 unfolding amount
 put-sign-requires c κs = search room-first
 
-size-requires : tie.Need-size-requires
-size-requires c κs = search needs
-
 put-pointed-requires : tie.Need-put-pointed-requires
 put-pointed-requires c κs = (search unit-positive, search size-room)
-
-same-length : tie.Need-same-length
-same-length c = search needs
 
 returns : tie.Need-returns
 returns c = search amount-put
 
 pub put-amount-spec : {M : Type 1} → statement M
 put-amount-spec =
-    tie.close (tie.spec put-sign-requires size-requires put-pointed-requires same-length returns)
+    tie.close
+    (tie.spec
+    put-sign-requires
+    (λ c κs. search needs)
+    put-pointed-requires
+    (λ c. search needs)
+    returns)

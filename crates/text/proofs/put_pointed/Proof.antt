@@ -4,23 +4,14 @@ use Rattle.text.proofs.Putting.{room-one, room-two, room-three, then}
 use Rattle.text.proofs.put_pointed.Statement.{statement}
 use Rattle.text.proofs.put_pointed.Tie as tie
 
-div-put-decimal : tie.Need-div-put-decimal
-div-put-decimal c = search needs
-
 put-decimal-requires : tie.Need-put-decimal-requires
 put-decimal-requires c κs = search room-one
-
-slice-aggregate-put : tie.Need-slice-aggregate-put
-slice-aggregate-put c = search needs
 
 put-requires : tie.Need-put-requires
 put-requires c κs = search room-two
 
 put-digits-requires : tie.Need-put-digits-requires
 put-digits-requires c κs = search room-three
-
-same-length : tie.Need-same-length
-same-length c = search needs
 
 returns : tie.Need-returns
 returns c = search then
@@ -29,10 +20,10 @@ pub put-pointed-spec : {M : Type 1} → statement M
 put-pointed-spec =
     tie.close
     (tie.spec
-    div-put-decimal
+    (λ c. search needs)
     put-decimal-requires
-    slice-aggregate-put
+    (λ c. search needs)
     put-requires
     put-digits-requires
-    same-length
+    (λ c. search needs)
     returns)

@@ -4,26 +4,14 @@ use Rattle.text.proofs.Amounts.{minus-room, plus-room, minus-put, plus-
 use Rattle.text.proofs.put_sign.Statement.{statement}
 use Rattle.text.proofs.put_sign.Tie as tie
 
-below-zero-requires : tie.Need-below-zero-requires
-below-zero-requires c κs = search needs
-
-slice-aggregate-put : tie.Need-slice-aggregate-put
-slice-aggregate-put c = search needs
-
 put-requires : tie.Need-put-requires
 put-requires c κs = search minus-room
-
-same-length : tie.Need-same-length
-same-length c = search needs
 
 returns : tie.Need-returns
 returns c = search minus-put
 
 put-requires-2 : tie.Need-put-requires-2
 put-requires-2 c κs = search plus-room
-
-same-length-2 : tie.Need-same-length-2
-same-length-2 c = search needs
 
 returns-2 : tie.Need-returns-2
 returns-2 c = search plus-put
@@ -32,11 +20,11 @@ pub put-sign-spec : {M : Type 1} → statement M
 put-sign-spec =
     tie.close
     (tie.spec
-    below-zero-requires
-    slice-aggregate-put
+    (λ c κs. search needs)
+    (λ c. search needs)
     put-requires
-    same-length
+    (λ c. search needs)
     returns
     put-requires-2
-    same-length-2
+    (λ c. search needs)
     returns-2)

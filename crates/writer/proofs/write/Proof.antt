@@ -6,35 +6,14 @@ use Rattle.writer.proofs.Ways.{wrote}
 use Rattle.writer.proofs.write.Statement.{statement}
 use Rattle.writer.proofs.write.Tie as tie
 
-kind-requires : tie.Need-kind-requires
-kind-requires c κs = search needs
-
-body-len-requires : tie.Need-body-len-requires
-body-len-requires c κs = search needs
-
 returns : tie.Need-returns
 returns c = search wrote
-
-sub-if2 : tie.Need-sub-if2
-sub-if2 c = search needs
 
 returns-2 : tie.Need-returns-2
 returns-2 c = search (wrote, length-given)
 
-good-requires : tie.Need-good-requires
-good-requires c κs = search needs
-
 lend-on-requires : tie.Need-lend-on-requires
 lend-on-requires c κs = (search room-given, search told-true)
-
-add-t13 : tie.Need-add-t13
-add-t13 c = search needs
-
-add-t14 : tie.Need-add-t14
-add-t14 c = search needs
-
-same-length : tie.Need-same-length
-same-length c = search needs
 
 returns-3 : tie.Need-returns-3
 returns-3 c = search (wrote, length-given, room-given)
@@ -46,15 +25,15 @@ pub write-spec : {M : Type 1} → statement M
 write-spec =
     tie.close
     (tie.spec
-    kind-requires
-    body-len-requires
+    (λ c κs. search needs)
+    (λ c κs. search needs)
     returns
-    sub-if2
+    (λ c. search needs)
     returns-2
-    good-requires
+    (λ c κs. search needs)
     lend-on-requires
-    add-t13
-    add-t14
-    same-length
+    (λ c. search needs)
+    (λ c. search needs)
+    (λ c. search needs)
     returns-3
     returns-4)

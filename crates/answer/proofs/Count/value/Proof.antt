@@ -4,12 +4,6 @@ use Rattle.answer.specs.Told.{toldCount}
 use Rattle.answer.proofs.Count.value.Statement.{statement}
 use Rattle.answer.proofs.Count.value.Tie as tie
 
-enum-known-self : tie.Need-enum-known-self
-enum-known-self c = search needs
-
-enum-told : tie.Need-enum-told
-enum-told c = search needs
-
 returns : tie.Need-returns
 unfolding toldCount
 returns c = cc
@@ -19,4 +13,4 @@ unfolding toldCount
 returns-2 c = cc
 
 pub value-spec : {M : Type 1} → statement M
-value-spec = tie.close (tie.spec enum-known-self enum-told returns returns-2)
+value-spec = tie.close (tie.spec (λ c. search needs) (λ c. search needs) returns returns-2)

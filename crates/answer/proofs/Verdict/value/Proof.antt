@@ -4,15 +4,6 @@ use Rattle.answer.specs.Told.{toldVerdict}
 use Rattle.answer.proofs.Verdict.value.Statement.{statement}
 use Rattle.answer.proofs.Verdict.value.Tie as tie
 
-enum-told : tie.Need-enum-told
-enum-told c = search needs
-
-enum-told-2 : tie.Need-enum-told-2
-enum-told-2 c = search needs
-
-enum-told-3 : tie.Need-enum-told-3
-enum-told-3 c = search needs
-
 returns : tie.Need-returns
 unfolding toldVerdict
 returns c = cc
@@ -26,4 +17,12 @@ unfolding toldVerdict
 returns-3 c = cc
 
 pub value-spec : {M : Type 1} → statement M
-value-spec = tie.close (tie.spec enum-told enum-told-2 enum-told-3 returns returns-2 returns-3)
+value-spec =
+    tie.close
+    (tie.spec
+    (λ c. search needs)
+    (λ c. search needs)
+    (λ c. search needs)
+    returns
+    returns-2
+    returns-3)

@@ -5,12 +5,6 @@ use borrow.Author.Needs.{needs}
 use Rattle.cases.proofs.input.read_room.Statement.{statement}
 use Rattle.cases.proofs.input.read_room.Tie as tie
 
-read-u8-requires : tie.Need-read-u8-requires
-read-u8-requires c κs = search needs
-
-cast-n : tie.Need-cast-n
-cast-n c = search needs
-
 returns : tie.Need-returns
 returns c = simp length-take (omega arith)
 
@@ -18,4 +12,4 @@ returns-2 : tie.Need-returns-2
 returns-2 c = simp length-take (omega arith)
 
 pub read-room-spec : {M : Type 1} → statement M
-read-room-spec = tie.close (tie.spec read-u8-requires cast-n returns returns-2)
+read-room-spec = tie.close (tie.spec (λ c κs. search needs) (λ c. search needs) returns returns-2)

@@ -11,45 +11,18 @@ Inv-loop words end₀ i₀ end i = i ≤ length words
 abbrev μ-loop : tie.MeasureT-loop
 μ-loop words end₀ i₀ end i = length words - i
 
-loop-holds : tie.Need-loop-holds Inv-loop μ-loop
-loop-holds c = search needs
-
-mul-print-changed : tie.Need-mul-print-changed Inv-loop μ-loop
-mul-print-changed c = search needs
-
-shared-slice-copy-out-print-changed : tie.Need-shared-slice-copy-out-print-changed Inv-loop μ-loop
-shared-slice-copy-out-print-changed c = search needs
-
-print-changed-requires : tie.Need-print-changed-requires Inv-loop μ-loop
-print-changed-requires c κs = search needs
-
-add-end : tie.Need-add-end Inv-loop μ-loop
-add-end c = search needs
-
-add-i : tie.Need-add-i Inv-loop μ-loop
-add-i c = search needs
-
-loop-less : tie.Need-loop-less Inv-loop μ-loop
-loop-less c = search needs
-
-loop-again : tie.Need-loop-again Inv-loop μ-loop
-loop-again c = search needs
-
-returns : tie.Need-returns Inv-loop μ-loop
-returns c = search needs
-
 pub print-words-spec : {M : Type 1} → statement M
 print-words-spec =
     tie.close
     (tie.spec
     Inv-loop
     μ-loop
-    loop-holds
-    mul-print-changed
-    shared-slice-copy-out-print-changed
-    print-changed-requires
-    add-end
-    add-i
-    loop-less
-    loop-again
-    returns)
+    (λ c. search needs)
+    (λ c. search needs)
+    (λ c. search needs)
+    (λ c κs. search needs)
+    (λ c. search needs)
+    (λ c. search needs)
+    (λ c. search needs)
+    (λ c. search needs)
+    (λ c. search needs))

@@ -23,35 +23,17 @@ loop-holds : tie.Need-loop-holds Inv-loop μ-loop
 unfolding filled
 loop-holds c = search needs
 
-mul-balanced-leg : tie.Need-mul-balanced-leg Inv-loop μ-loop
-mul-balanced-leg c = search needs
-
 slice-read-balanced-leg : tie.Need-slice-read-balanced-leg Inv-loop μ-loop
 slice-read-balanced-leg c = search balancing-room
-
-add-balanced-leg : tie.Need-add-balanced-leg Inv-loop μ-loop
-add-balanced-leg c = search needs
 
 balanced-leg-requires : tie.Need-balanced-leg-requires Inv-loop μ-loop
 balanced-leg-requires c κs = (search balancing-turned, (search needs, search needs))
 
-mul-azimuths : tie.Need-mul-azimuths Inv-loop μ-loop
-mul-azimuths c = search needs
-
 slice-write-azimuths : tie.Need-slice-write-azimuths Inv-loop μ-loop
 slice-write-azimuths c = search balancing-room
 
-add-k : tie.Need-add-k Inv-loop μ-loop
-add-k c = search needs
-
-loop-less : tie.Need-loop-less Inv-loop μ-loop
-loop-less c = search needs
-
 loop-again : tie.Need-loop-again Inv-loop μ-loop
 loop-again c = (search needs, search balancing-next, search needs)
-
-same-length : tie.Need-same-length Inv-loop μ-loop
-same-length c = search needs
 
 returns : tie.Need-returns Inv-loop μ-loop
 returns c = search filled-last
@@ -63,14 +45,14 @@ balance-spec =
     Inv-loop
     μ-loop
     loop-holds
-    mul-balanced-leg
+    (λ c. search needs)
     slice-read-balanced-leg
-    add-balanced-leg
+    (λ c. search needs)
     balanced-leg-requires
-    mul-azimuths
+    (λ c. search needs)
     slice-write-azimuths
-    add-k
-    loop-less
+    (λ c. search needs)
+    (λ c. search needs)
     loop-again
-    same-length
+    (λ c. search needs)
     returns)

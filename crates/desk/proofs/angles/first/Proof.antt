@@ -5,12 +5,6 @@ use Rattle.desk.proofs.Balancing.{azimuth-is, azimuth-turned}
 use Rattle.desk.proofs.angles.first.Statement.{statement}
 use Rattle.desk.proofs.angles.first.Tie as tie
 
-from-mark-requires : tie.Need-from-mark-requires
-from-mark-requires c κs = search needs
-
-value-requires : tie.Need-value-requires
-value-requires c κs = search needs
-
 cast-result : tie.Need-cast-result
 cast-result c = fits-under w32 _ 12960000 (search azimuth-turned) tt
 
@@ -18,4 +12,4 @@ returns : tie.Need-returns
 returns c = (search azimuth-is, search azimuth-turned)
 
 pub first-spec : {M : Type 1} → statement M
-first-spec = tie.close (tie.spec from-mark-requires value-requires cast-result returns)
+first-spec = tie.close (tie.spec (λ c κs. search needs) (λ c κs. search needs) cast-result returns)

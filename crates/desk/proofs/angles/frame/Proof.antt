@@ -4,11 +4,8 @@ use borrow.Author.Needs.{needs}
 use Rattle.desk.proofs.angles.frame.Statement.{statement}
 use Rattle.desk.proofs.angles.frame.Tie as tie
 
-combined-requires : tie.Need-combined-requires
-combined-requires c κs = search needs
-
 returns : tie.Need-returns
 returns c = search frame-is
 
 pub frame-spec : {M : Type 1} → statement M
-frame-spec = tie.close (tie.spec combined-requires returns)
+frame-spec = tie.close (tie.spec (λ c κs. search needs) returns)

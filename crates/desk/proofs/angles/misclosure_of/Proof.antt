@@ -4,14 +4,8 @@ use borrow.Author.Needs.{needs}
 use Rattle.desk.proofs.angles.misclosure_of.Statement.{statement}
 use Rattle.desk.proofs.angles.misclosure_of.Tie as tie
 
-misclosure-requires : tie.Need-misclosure-requires
-misclosure-requires c κs = search needs
-
-value-requires : tie.Need-value-requires
-value-requires c κs = search needs
-
 returns : tie.Need-returns
 returns c = (search misclosure-value, search misclosure-small)
 
 pub misclosure-of-spec : {M : Type 1} → statement M
-misclosure-of-spec = tie.close (tie.spec misclosure-requires value-requires returns)
+misclosure-of-spec = tie.close (tie.spec (λ c κs. search needs) (λ c κs. search needs) returns)

@@ -4,9 +4,6 @@ use Rattle.whole.proofs.Branch.{told}
 use Rattle.desk.proofs.area.area.Statement.{statement}
 use Rattle.desk.proofs.area.area.Tie as tie
 
-round-requires : tie.Need-round-requires
-round-requires c κs = search needs
-
 returns : tie.Need-returns
 returns c = search told
 
@@ -14,4 +11,4 @@ returns-2 : tie.Need-returns-2
 returns-2 c = search told
 
 pub area-spec : {M : Type 1} → statement M
-area-spec = tie.close (tie.spec round-requires returns returns-2)
+area-spec = tie.close (tie.spec (λ c κs. search needs) returns returns-2)

@@ -1,5 +1,5 @@
 -- `is_loop` meets its contract: the code's two tests are those of the definition.
-use Rattle.desk.proofs.Looping.{same-known, same-not}
+use Rattle.desk.proofs.area.Looping.{same-known, same-not}
 use Rattle.desk.proofs.area.is_loop.Statement.{statement}
 use Rattle.desk.proofs.area.is_loop.Tie as tie
 

@@ -7,7 +7,7 @@ use lib.IntN.{natAbs}
 use Rattle.whole.specs.Sum.{sumTo}
 use Rattle.steps.specs.Area.{doubledTo}
 use Rattle.desk.specs.Inside.{takenFrom, TakenAt}
-use Rattle.desk.proofs.Looping.{north-fits, first-north-fits, east-fits, first-east-fits, ranged, sum-next, sum-last}
+use Rattle.desk.proofs.area.Looping.{north-fits, first-north-fits, east-fits, first-east-fits, ranged, sum-next, sum-last}
 use Rattle.desk.proofs.area.round.Statement.{statement}
 use Rattle.desk.proofs.area.round.Tie as tie
 
@@ -24,26 +24,11 @@ loop-holds : tie.Need-loop-holds Inv-loop μ-loop
 unfolding doubledTo sumTo
 loop-holds c = (search needs, search needs, refl, search needs)
 
-add-loop : tie.Need-add-loop Inv-loop μ-loop
-add-loop c = search needs
-
-add-offsets-at : tie.Need-add-offsets-at Inv-loop μ-loop
-add-offsets-at c = search needs
-
 offsets-at-requires-2 : tie.Need-offsets-at-requires-2 Inv-loop μ-loop
 offsets-at-requires-2 c κs = (search needs, ((search north-fits, search first-north-fits), (search east-fits, search first-east-fits)))
 
 cross-requires : tie.Need-cross-requires Inv-loop μ-loop
 cross-requires c κs = (search ranged, search ranged)
-
-plus-requires : tie.Need-plus-requires Inv-loop μ-loop
-plus-requires c κs = search needs
-
-add-i : tie.Need-add-i Inv-loop μ-loop
-add-i c = search needs
-
-loop-less : tie.Need-loop-less Inv-loop μ-loop
-loop-less c = search needs
 
 loop-again : tie.Need-loop-again Inv-loop μ-loop
 loop-again c = (search needs, search needs, search sum-next, search needs)
@@ -59,12 +44,12 @@ round-spec =
     μ-loop
     offsets-at-requires
     loop-holds
-    add-loop
-    add-offsets-at
+    (λ c. search needs)
+    (λ c. search needs)
     offsets-at-requires-2
     cross-requires
-    plus-requires
-    add-i
-    loop-less
+    (λ c κs. search needs)
+    (λ c. search needs)
+    (λ c. search needs)
     loop-again
     returns)

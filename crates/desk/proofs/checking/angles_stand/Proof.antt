@@ -5,9 +5,6 @@ use Rattle.desk.proofs.Carrying.{test-known}
 use Rattle.desk.proofs.checking.angles_stand.Statement.{statement}
 use Rattle.desk.proofs.checking.angles_stand.Tie as tie
 
-closing-azimuth-requires : tie.Need-closing-azimuth-requires
-closing-azimuth-requires c κs = search needs
-
 misclosure-of-requires : tie.Need-misclosure-of-requires
 misclosure-of-requires c κs = (search closing-turned, search given-turned)
 
@@ -19,5 +16,4 @@ returns c = search test-known
 
 pub angles-stand-spec : {M : Type 1} → statement M
 angles-stand-spec =
-    tie.close
-    (tie.spec closing-azimuth-requires misclosure-of-requires angles-close-requires returns)
+    tie.close (tie.spec (λ c κs. search needs) misclosure-of-requires angles-close-requires returns)

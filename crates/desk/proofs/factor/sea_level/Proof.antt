@@ -4,14 +4,8 @@ use Rattle.desk.proofs.Scaling.{sea-is, sea-low, sea-high}
 use Rattle.desk.proofs.factor.sea_level.Statement.{statement}
 use Rattle.desk.proofs.factor.sea_level.Tie as tie
 
-sea-level-requires : tie.Need-sea-level-requires
-sea-level-requires c κs = search needs
-
-value-requires : tie.Need-value-requires
-value-requires c κs = search needs
-
 returns : tie.Need-returns
 returns c = (search sea-is, (search sea-low, search sea-high))
 
 pub sea-level-spec : {M : Type 1} → statement M
-sea-level-spec = tie.close (tie.spec sea-level-requires value-requires returns)
+sea-level-spec = tie.close (tie.spec (λ c κs. search needs) (λ c κs. search needs) returns)

@@ -4,24 +4,6 @@ use borrow.Author.Needs.{needs}
 use Rattle.desk.proofs.legs.advance.Statement.{statement}
 use Rattle.desk.proofs.legs.advance.Tie as tie
 
-mul-grid-distance : tie.Need-mul-grid-distance
-mul-grid-distance c = search needs
-
-shared-slice-read-grid-distance : tie.Need-shared-slice-read-grid-distance
-shared-slice-read-grid-distance c = search needs
-
-grid-distance-requires : tie.Need-grid-distance-requires
-grid-distance-requires c κs = search needs
-
-mul-moves-in : tie.Need-mul-moves-in
-mul-moves-in c = search needs
-
-shared-slice-read-moves-in : tie.Need-shared-slice-read-moves-in
-shared-slice-read-moves-in c = search needs
-
-moves-in-requires : tie.Need-moves-in-requires
-moves-in-requires c κs = search needs
-
 added-requires : tie.Need-added-requires
 added-requires c κs = (search needs, ((search course-small, search course-small), search needs))
 
@@ -32,11 +14,11 @@ pub advance-spec : {M : Type 1} → statement M
 advance-spec =
     tie.close
     (tie.spec
-    mul-grid-distance
-    shared-slice-read-grid-distance
-    grid-distance-requires
-    mul-moves-in
-    shared-slice-read-moves-in
-    moves-in-requires
+    (λ c. search needs)
+    (λ c. search needs)
+    (λ c κs. search needs)
+    (λ c. search needs)
+    (λ c. search needs)
+    (λ c κs. search needs)
     added-requires
     returns)

@@ -4,14 +4,8 @@ use Rattle.desk.proofs.Running.{grid-is, grid-small}
 use Rattle.desk.proofs.legs.grid_distance.Statement.{statement}
 use Rattle.desk.proofs.legs.grid_distance.Tie as tie
 
-grid-requires : tie.Need-grid-requires
-grid-requires c κs = search needs
-
-value-requires : tie.Need-value-requires
-value-requires c κs = search needs
-
 returns : tie.Need-returns
 returns c = (search grid-is, search grid-small)
 
 pub grid-distance-spec : {M : Type 1} → statement M
-grid-distance-spec = tie.close (tie.spec grid-requires value-requires returns)
+grid-distance-spec = tie.close (tie.spec (λ c κs. search needs) (λ c κs. search needs) returns)

@@ -20,12 +20,6 @@ Inv-loop table b azimuths distances spots₀ runs₀ s₀ k₀ spots runs s k =
 abbrev μ-loop : tie.MeasureT-loop
 μ-loop table b azimuths distances spots₀ runs₀ s₀ k₀ spots runs s k = b .legs - k
 
-start-requires : tie.Need-start-requires Inv-loop μ-loop
-start-requires c κs = search needs
-
-keep-requires : tie.Need-keep-requires Inv-loop μ-loop
-keep-requires c κs = search needs
-
 loop-holds : tie.Need-loop-holds Inv-loop μ-loop
 loop-holds c = (search needs, search needs, search stands-first, search ran-first, search needs, search needs, search needs, search needs, search needs, search needs)
 
@@ -34,23 +28,11 @@ advance-requires c κs =
     let inv = c .before .before .loop .inv in
     ((search needs, search needs), (search leg-sound, stands-small _ (lent-entries _) _ (inv .1) _ _ (inv .0) (inv .2)))
 
-add-k : tie.Need-add-k Inv-loop μ-loop
-add-k c = search needs
-
 keep-requires-2 : tie.Need-keep-requires-2 Inv-loop μ-loop
 keep-requires-2 c κs = (search spots-room, search runs-room)
 
-loop-less : tie.Need-loop-less Inv-loop μ-loop
-loop-less c = search needs
-
 loop-again : tie.Need-loop-again Inv-loop μ-loop
 loop-again c = (search needs, search needs, search stands-next, search ran-next, search needs, search needs, search needs, search needs, search needs, search needs)
-
-same-length : tie.Need-same-length Inv-loop μ-loop
-same-length c = search needs
-
-same-length-2 : tie.Need-same-length-2 Inv-loop μ-loop
-same-length-2 c = search needs
 
 returns : tie.Need-returns Inv-loop μ-loop
 returns c = (search ran-last, search stands-last)
@@ -61,14 +43,14 @@ run-all-spec =
     (tie.spec
     Inv-loop
     μ-loop
-    start-requires
-    keep-requires
+    (λ c κs. search needs)
+    (λ c κs. search needs)
     loop-holds
     advance-requires
-    add-k
+    (λ c. search needs)
     keep-requires-2
-    loop-less
+    (λ c. search needs)
     loop-again
-    same-length
-    same-length-2
+    (λ c. search needs)
+    (λ c. search needs)
     returns)

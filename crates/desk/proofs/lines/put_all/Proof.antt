@@ -9,9 +9,6 @@ put-first-requires : tie.Need-put-first-requires
 unfolding textOf
 put-first-requires c κs = search room-one
 
-add-put-stations : tie.Need-add-put-stations
-add-put-stations c = search needs
-
 put-stations-requires : tie.Need-put-stations-requires
 unfolding textOf
 put-stations-requires c κs = (search needs, search room-two)
@@ -19,9 +16,6 @@ put-stations-requires c κs = (search needs, search room-two)
 put-area-requires : tie.Need-put-area-requires
 unfolding textOf
 put-area-requires c κs = search room-three
-
-same-length : tie.Need-same-length
-same-length c = search needs
 
 returns : tie.Need-returns
 unfolding textOf
@@ -32,8 +26,8 @@ put-all-spec =
     tie.close
     (tie.spec
     put-first-requires
-    add-put-stations
+    (λ c. search needs)
     put-stations-requires
     put-area-requires
-    same-length
+    (λ c. search needs)
     returns)

@@ -10,14 +10,8 @@ put-requires c κs = search room-one
 put-decimal-requires : tie.Need-put-decimal-requires
 put-decimal-requires c κs = search room-two
 
-slice-aggregate-put : tie.Need-slice-aggregate-put
-slice-aggregate-put c = search needs
-
 put-requires-2 : tie.Need-put-requires-2
 put-requires-2 c κs = search room-three
-
-same-length : tie.Need-same-length
-same-length c = search needs
 
 returns : tie.Need-returns
 returns c = search then
@@ -28,7 +22,7 @@ put-count-spec =
     (tie.spec
     put-requires
     put-decimal-requires
-    slice-aggregate-put
+    (λ c. search needs)
     put-requires-2
-    same-length
+    (λ c. search needs)
     returns)

@@ -9,15 +9,9 @@ put-closures-requires : tie.Need-put-closures-requires
 unfolding closeLine
 put-closures-requires c κs = search room-first
 
-slice-aggregate-put-count : tie.Need-slice-aggregate-put-count
-slice-aggregate-put-count c = search needs
-
 put-count-requires : tie.Need-put-count-requires
 unfolding closeLine
 put-count-requires c κs = search room-then
-
-same-length : tie.Need-same-length
-same-length c = search needs
 
 returns : tie.Need-returns
 unfolding closeLine
@@ -28,7 +22,7 @@ put-first-spec =
     tie.close
     (tie.spec
     put-closures-requires
-    slice-aggregate-put-count
+    (λ c. search needs)
     put-count-requires
-    same-length
+    (λ c. search needs)
     returns)

@@ -10,11 +10,8 @@ put-requires c κs = search room-first
 put-amount-requires : tie.Need-put-amount-requires
 put-amount-requires c κs = (search needs, search room-then)
 
-same-length : tie.Need-same-length
-same-length c = search needs
-
 returns : tie.Need-returns
 returns c = search then
 
 pub put-named-spec : {M : Type 1} → statement M
-put-named-spec = tie.close (tie.spec put-requires put-amount-requires same-length returns)
+put-named-spec = tie.close (tie.spec put-requires put-amount-requires (λ c. search needs) returns)

@@ -5,7 +5,7 @@ use borrow.Author.Needs.{needs}
 use lib.ListN.{length}
 use Rattle.text.specs.Room.{Put}
 use Rattle.desk.specs.Sheet.{stationLines}
-use Rattle.desk.proofs.StationLines.{lines-first, line-room, lines-next, lines-last}
+use Rattle.desk.proofs.lines.StationLines.{lines-first, line-room, lines-next, lines-last}
 use Rattle.desk.proofs.lines.put_stations.Statement.{statement}
 use Rattle.desk.proofs.lines.put_stations.Tie as tie
 
@@ -21,17 +21,8 @@ loop-holds c = (search needs, search needs, search lines-first)
 put-station-requires : tie.Need-put-station-requires Inv-loop μ-loop
 put-station-requires c κs = (search needs, search line-room)
 
-add-k : tie.Need-add-k Inv-loop μ-loop
-add-k c = search needs
-
-loop-less : tie.Need-loop-less Inv-loop μ-loop
-loop-less c = search needs
-
 loop-again : tie.Need-loop-again Inv-loop μ-loop
 loop-again c = (search needs, search needs, search lines-next)
-
-same-length : tie.Need-same-length Inv-loop μ-loop
-same-length c = search needs
 
 returns : tie.Need-returns Inv-loop μ-loop
 returns c = search lines-last
@@ -44,8 +35,8 @@ put-stations-spec =
     μ-loop
     loop-holds
     put-station-requires
-    add-k
-    loop-less
+    (λ c. search needs)
+    (λ c. search needs)
     loop-again
-    same-length
+    (λ c. search needs)
     returns)

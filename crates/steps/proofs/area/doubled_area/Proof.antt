@@ -15,9 +15,6 @@ returns-2 c = search ranges depth 9
 returns-3 : tie.Need-returns-3
 returns-3 c = search (ne-eqb, ranges) depth 9
 
-all-small-requires : tie.Need-all-small-requires
-all-small-requires c κs = search needs
-
 round-requires : tie.Need-round-requires
 round-requires c κs = (search flag-yes, omega arith)
 
@@ -30,4 +27,11 @@ returns-5 c = search (flag-no, ranges) depth 9
 pub doubled-area-spec : {M : Type 1} → statement M
 doubled-area-spec =
     tie.close
-    (tie.spec returns returns-2 returns-3 all-small-requires round-requires returns-4 returns-5)
+    (tie.spec
+    returns
+    returns-2
+    returns-3
+    (λ c κs. search needs)
+    round-requires
+    returns-4
+    returns-5)

@@ -4,17 +4,11 @@ use Rattle.steps.proofs.Areas.{next-first, next-on}
 use Rattle.steps.proofs.area.next.Statement.{statement}
 use Rattle.steps.proofs.area.next.Tie as tie
 
-add-if1 : tie.Need-add-if1
-add-if1 c = search needs
-
 returns : tie.Need-returns
 returns c = search next-first
-
-add-result : tie.Need-add-result
-add-result c = search needs
 
 returns-2 : tie.Need-returns-2
 returns-2 c = search next-on
 
 pub next-spec : {M : Type 1} → statement M
-next-spec = tie.close (tie.spec add-if1 returns add-result returns-2)
+next-spec = tie.close (tie.spec (λ c. search needs) returns (λ c. search needs) returns-2)

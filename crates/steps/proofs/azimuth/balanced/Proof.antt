@@ -8,26 +8,11 @@ use Rattle.steps.proofs.azimuth.balanced.Tie as tie
 returns : tie.Need-returns
 returns c = search ranges depth 8
 
-size-requires : tie.Need-size-requires
-size-requires c κs = search needs
-
 returns-2 : tie.Need-returns-2
 returns-2 c = search ranges depth 8
 
-below-zero-requires : tie.Need-below-zero-requires
-below-zero-requires c κs = search needs
-
-add-t7 : tie.Need-add-t7
-add-t7 c = search needs
-
 returns-3 : tie.Need-returns-3
 returns-3 c = search (balanced-below, ranges) depth 8
-
-add-t10 : tie.Need-add-t10
-add-t10 c = search needs
-
-sub-t11 : tie.Need-sub-t11
-sub-t11 c = search needs
 
 returns-4 : tie.Need-returns-4
 returns-4 c = search (balanced-above, ranges) depth 8
@@ -37,11 +22,11 @@ balanced-spec =
     tie.close
     (tie.spec
     returns
-    size-requires
+    (λ c κs. search needs)
     returns-2
-    below-zero-requires
-    add-t7
+    (λ c κs. search needs)
+    (λ c. search needs)
     returns-3
-    add-t10
-    sub-t11
+    (λ c. search needs)
+    (λ c. search needs)
     returns-4)

@@ -5,9 +5,6 @@ use Rattle.steps.specs.Azimuth.{closesAngles}
 use Rattle.steps.proofs.azimuth.closes_angles.Statement.{statement}
 use Rattle.steps.proofs.azimuth.closes_angles.Tie as tie
 
-size-requires : tie.Need-size-requires
-size-requires c κs = search needs
-
 returns : tie.Need-returns
 returns c = search ranges depth 8
 
@@ -16,12 +13,6 @@ returns-2 c = search ranges depth 8
 
 returns-3 : tie.Need-returns-3
 returns-3 c = search ranges depth 8
-
-add-if4 : tie.Need-add-if4
-add-if4 c = search needs
-
-mul-if4 : tie.Need-mul-if4
-mul-if4 c = search needs
 
 returns-4 : tie.Need-returns-4
 unfolding closesAngles
@@ -34,4 +25,12 @@ returns-5 c = search ranges depth 8
 pub closes-angles-spec : {M : Type 1} → statement M
 closes-angles-spec =
     tie.close
-    (tie.spec size-requires returns returns-2 returns-3 add-if4 mul-if4 returns-4 returns-5)
+    (tie.spec
+    (λ c κs. search needs)
+    returns
+    returns-2
+    returns-3
+    (λ c. search needs)
+    (λ c. search needs)
+    returns-4
+    returns-5)

@@ -10,22 +10,17 @@ returns c = search ranges depth 8
 returns-2 : tie.Need-returns-2
 returns-2 c = search ranges depth 8
 
-add-modulo : tie.Need-add-modulo
-add-modulo c = search needs
-
-add-modulo-2 : tie.Need-add-modulo-2
-add-modulo-2 c = search needs
-
-modulo-requires : tie.Need-modulo-requires
-modulo-requires c κs = search needs
-
-cast-t7 : tie.Need-cast-t7
-cast-t7 c = search needs
-
 returns-3 : tie.Need-returns-3
 returns-3 c = search ranges depth 8
 
 pub onward-spec : {M : Type 1} → statement M
 onward-spec =
     tie.close
-    (tie.spec returns returns-2 add-modulo add-modulo-2 modulo-requires cast-t7 returns-3)
+    (tie.spec
+    returns
+    returns-2
+    (λ c. search needs)
+    (λ c. search needs)
+    (λ c κs. search needs)
+    (λ c. search needs)
+    returns-3)

@@ -6,12 +6,6 @@ use Rattle.steps.proofs.Rooting.{closes-yes, closes-no}
 use Rattle.steps.proofs.closure.closes.Statement.{statement}
 use Rattle.steps.proofs.closure.closes.Tie as tie
 
-size-requires : tie.Need-size-requires
-size-requires c κs = search needs
-
-size-requires-2 : tie.Need-size-requires-2
-size-requires-2 c κs = search needs
-
 returns : tie.Need-returns
 returns c = search ranges depth 9
 
@@ -23,9 +17,6 @@ returns-3 c = search ranges depth 9
 
 returns-4 : tie.Need-returns-4
 returns-4 c = search ranges depth 9
-
-squares-requires : tie.Need-squares-requires
-squares-requires c κs = search needs
 
 mul-if5 : tie.Need-mul-if5
 mul-if5 c = search square-fits
@@ -40,13 +31,13 @@ pub closes-spec : {M : Type 1} → statement M
 closes-spec =
     tie.close
     (tie.spec
-    size-requires
-    size-requires-2
+    (λ c κs. search needs)
+    (λ c κs. search needs)
     returns
     returns-2
     returns-3
     returns-4
-    squares-requires
+    (λ c κs. search needs)
     mul-if5
     returns-5
     returns-6)

@@ -14,8 +14,5 @@ mul-result-2 c = omega (arith, product-most (c .args .e) (c .args .e) 1200000000
 add-result : tie.Need-add-result
 add-result c = omega (arith, product-most (c .args .n) (c .args .n) 1200000000 1200000000 (c .pre .0) (c .pre .0), product-most (c .args .e) (c .args .e) 1200000000 1200000000 (c .pre .1) (c .pre .1))
 
-returns : tie.Need-returns
-returns c = search needs
-
 pub squares-spec : {M : Type 1} → statement M
-squares-spec = tie.close (tie.spec mul-result mul-result-2 add-result returns)
+squares-spec = tie.close (tie.spec mul-result mul-result-2 add-result (λ c. search needs))

@@ -10,9 +10,6 @@ use Rattle.steps.proofs.course.departure.Tie as tie
 returns : tie.Need-returns
 returns c = search too-long-told
 
-sine-requires : tie.Need-sine-requires
-sine-requires c κs = search needs
-
 moved-requires : tie.Need-moved-requires
 unfolding sineAlong
 moved-requires c κs =
@@ -24,4 +21,4 @@ unfolding sineAlong
 returns-2 c = search along-moved
 
 pub departure-spec : {M : Type 1} → statement M
-departure-spec = tie.close (tie.spec returns sine-requires moved-requires returns-2)
+departure-spec = tie.close (tie.spec returns (λ c κs. search needs) moved-requires returns-2)

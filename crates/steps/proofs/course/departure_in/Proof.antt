@@ -7,9 +7,6 @@ use Rattle.steps.proofs.Moving.{along-small, along-moved}
 use Rattle.steps.proofs.course.departure_in.Statement.{statement}
 use Rattle.steps.proofs.course.departure_in.Tie as tie
 
-sine-in-requires : tie.Need-sine-in-requires
-sine-in-requires c κs = search needs
-
 moved-requires : tie.Need-moved-requires
 unfolding sineAlong
 moved-requires c κs =
@@ -22,4 +19,4 @@ unfolding sineAlong
 returns c = search along-moved
 
 pub departure-in-spec : {M : Type 1} → statement M
-departure-in-spec = tie.close (tie.spec sine-in-requires moved-requires returns)
+departure-in-spec = tie.close (tie.spec (λ c κs. search needs) moved-requires returns)

@@ -10,9 +10,6 @@ use Rattle.steps.proofs.course.latitude.Tie as tie
 returns : tie.Need-returns
 returns c = search too-long-told
 
-cosine-requires : tie.Need-cosine-requires
-cosine-requires c κs = search needs
-
 moved-requires : tie.Need-moved-requires
 unfolding sineAlong
 moved-requires c κs =
@@ -24,4 +21,4 @@ unfolding sineAlong
 returns-2 c = search along-moved
 
 pub latitude-spec : {M : Type 1} → statement M
-latitude-spec = tie.close (tie.spec returns cosine-requires moved-requires returns-2)
+latitude-spec = tie.close (tie.spec returns (λ c κs. search needs) moved-requires returns-2)

@@ -7,9 +7,6 @@ use Rattle.steps.proofs.Moving.{along-small, along-moved}
 use Rattle.steps.proofs.course.latitude_in.Statement.{statement}
 use Rattle.steps.proofs.course.latitude_in.Tie as tie
 
-cosine-in-requires : tie.Need-cosine-in-requires
-cosine-in-requires c κs = search needs
-
 moved-requires : tie.Need-moved-requires
 unfolding sineAlong
 moved-requires c κs =
@@ -22,4 +19,4 @@ unfolding sineAlong
 returns c = search along-moved
 
 pub latitude-in-spec : {M : Type 1} → statement M
-latitude-in-spec = tie.close (tie.spec cosine-in-requires moved-requires returns)
+latitude-in-spec = tie.close (tie.spec (λ c κs. search needs) moved-requires returns)

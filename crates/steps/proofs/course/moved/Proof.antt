@@ -9,20 +9,8 @@ use Rattle.steps.proofs.course.moved.Tie as tie
 returns : tie.Need-returns
 returns c = search ranges
 
-enum-told : tie.Need-enum-told
-enum-told c = search needs
-
-enum-known-sine : tie.Need-enum-known-sine
-enum-known-sine c = search needs
-
-size-requires : tie.Need-size-requires
-size-requires c κs = search needs
-
 cast-move-by : tie.Need-cast-move-by
 cast-move-by c = let h : c .size .result ≤ 1000000000 = search size-small in search needs
-
-below-zero-requires : tie.Need-below-zero-requires
-below-zero-requires c κs = search needs
 
 move-by-requires : tie.Need-move-by-requires
 move-by-requires c κs = (search needs, search size-small)
@@ -38,11 +26,11 @@ moved-spec =
     tie.close
     (tie.spec
     returns
-    enum-told
-    enum-known-sine
-    size-requires
+    (λ c. search needs)
+    (λ c. search needs)
+    (λ c κs. search needs)
     cast-move-by
-    below-zero-requires
+    (λ c κs. search needs)
     move-by-requires
     returns-2
     returns-3)

@@ -1,21 +1,12 @@
 -- `moves_in` meets its contract: each move is by the size and the sign of the sine that counts along its axis, and an azimuth without sides is refused.
 use borrow.Author.Needs.{needs}
-use Rattle.steps.specs.Course.{toldOf}
+use Rattle.steps.specs.Course.{toldMove}
 use Rattle.steps.proofs.Moving.{too-long, no-azimuth, sine-small, cosine-small, along-told}
 use Rattle.steps.proofs.course.moves_in.Statement.{statement}
 use Rattle.steps.proofs.course.moves_in.Tie as tie
 
 returns : tie.Need-returns
 returns c = (search too-long, search too-long)
-
-sides-in-requires : tie.Need-sides-in-requires
-sides-in-requires c κs = search needs
-
-enum-told : tie.Need-enum-told
-enum-told c = search needs
-
-enum-known-s : tie.Need-enum-known-s
-enum-known-s c = search needs
 
 move-by-requires : tie.Need-move-by-requires
 move-by-requires c κs = (search needs, search cosine-small)
@@ -27,7 +18,7 @@ returns-2 : tie.Need-returns-2
 returns-2 c = (search no-azimuth, search no-azimuth)
 
 returns-3 : tie.Need-returns-3
-unfolding toldOf
+unfolding toldMove
 returns-3 c = (search along-told, search along-told)
 
 pub moves-in-spec : {M : Type 1} → statement M
@@ -35,9 +26,9 @@ moves-in-spec =
     tie.close
     (tie.spec
     returns
-    sides-in-requires
-    enum-told
-    enum-known-s
+    (λ c κs. search needs)
+    (λ c. search needs)
+    (λ c. search needs)
     move-by-requires
     move-by-requires-2
     returns-2

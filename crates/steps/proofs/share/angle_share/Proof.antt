@@ -4,9 +4,6 @@ use Rattle.answer.proofs.Telling.{ranges}
 use Rattle.steps.proofs.share.angle_share.Statement.{statement}
 use Rattle.steps.proofs.share.angle_share.Tie as tie
 
-size-requires : tie.Need-size-requires
-size-requires c κs = search needs
-
 returns : tie.Need-returns
 returns c = search ranges depth 9
 
@@ -16,17 +13,8 @@ returns-2 c = search ranges depth 9
 returns-3 : tie.Need-returns-3
 returns-3 c = search ranges depth 9
 
-add-if4 : tie.Need-add-if4
-add-if4 c = search needs
-
 returns-4 : tie.Need-returns-4
 returns-4 c = search ranges depth 9
-
-add-share-of : tie.Need-add-share-of
-add-share-of c = search needs
-
-share-of-requires : tie.Need-share-of-requires
-share-of-requires c κs = search needs
 
 returns-5 : tie.Need-returns-5
 returns-5 c = search ranges depth 9
@@ -35,12 +23,12 @@ pub angle-share-spec : {M : Type 1} → statement M
 angle-share-spec =
     tie.close
     (tie.spec
-    size-requires
+    (λ c κs. search needs)
     returns
     returns-2
     returns-3
-    add-if4
+    (λ c. search needs)
     returns-4
-    add-share-of
-    share-of-requires
+    (λ c. search needs)
+    (λ c κs. search needs)
     returns-5)

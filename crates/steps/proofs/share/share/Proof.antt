@@ -4,9 +4,6 @@ use Rattle.answer.proofs.Telling.{ranges}
 use Rattle.steps.proofs.share.share.Statement.{statement}
 use Rattle.steps.proofs.share.share.Tie as tie
 
-size-requires : tie.Need-size-requires
-size-requires c κs = search needs
-
 returns : tie.Need-returns
 returns c = search ranges depth 9
 
@@ -19,13 +16,17 @@ returns-3 c = search ranges depth 9
 returns-4 : tie.Need-returns-4
 returns-4 c = search ranges depth 9
 
-share-of-requires : tie.Need-share-of-requires
-share-of-requires c κs = search needs
-
 returns-5 : tie.Need-returns-5
 returns-5 c = search ranges depth 9
 
 pub share-spec : {M : Type 1} → statement M
 share-spec =
     tie.close
-    (tie.spec size-requires returns returns-2 returns-3 returns-4 share-of-requires returns-5)
+    (tie.spec
+    (λ c κs. search needs)
+    returns
+    returns-2
+    returns-3
+    returns-4
+    (λ c κs. search needs)
+    returns-5)

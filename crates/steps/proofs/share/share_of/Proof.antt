@@ -7,9 +7,6 @@ use Rattle.steps.proofs.Sharing.{share-above, share-below}
 use Rattle.steps.proofs.share.share_of.Statement.{statement}
 use Rattle.steps.proofs.share.share_of.Tie as tie
 
-size-requires : tie.Need-size-requires
-size-requires c κs = search needs
-
 -- the largest part times the largest total
 most : (c : tie.After-size) → c .before .args .part * c .size .result ≤ 8424000000000000
 most c = product-most (c .before .args .part) (c .size .result) 1300000000 6480000 (omega arith) (omega arith)
@@ -22,9 +19,6 @@ half-up-requires c κs = omega (arith, most c)
 
 of-size-requires : tie.Need-of-size-requires
 of-size-requires c κs = omega (arith, most (c .before))
-
-below-zero-requires : tie.Need-below-zero-requires
-below-zero-requires c κs = search needs
 
 opposite-requires : tie.Need-opposite-requires
 opposite-requires c κs = omega (arith, most (c .before .before .before .before))
@@ -39,11 +33,11 @@ pub share-of-spec : {M : Type 1} → statement M
 share-of-spec =
     tie.close
     (tie.spec
-    size-requires
+    (λ c κs. search needs)
     mul-half-up
     half-up-requires
     of-size-requires
-    below-zero-requires
+    (λ c κs. search needs)
     opposite-requires
     returns
     returns-2)

@@ -7,9 +7,6 @@ use Rattle.tape.proofs.order.beyond.Tie as tie
 returns : tie.Need-returns
 returns c = search branch depth 20
 
-shared-slice-read-if2 : tie.Need-shared-slice-read-if2
-shared-slice-read-if2 c = search needs
-
 returns-2 : tie.Need-returns-2
 returns-2 c = search branch depth 20
 
@@ -20,4 +17,4 @@ returns-4 : tie.Need-returns-4
 returns-4 c = search branch depth 20
 
 pub beyond-spec : {M : Type 1} → statement M
-beyond-spec = tie.close (tie.spec returns shared-slice-read-if2 returns-2 returns-3 returns-4)
+beyond-spec = tie.close (tie.spec returns (λ c. search needs) returns-2 returns-3 returns-4)

@@ -1,7 +1,7 @@
 -- `leg` meets its contract: one leg too many, one cut short, then its fields.
 use borrow.Author.Needs.{needs}
-use Rattle.tape.proofs.Passing.{leg-within, leg-full, leg-long, leg-short, leg-whole}
-use Rattle.tape.proofs.Passing.{leg-passes, leg-bad}
+use Rattle.tape.proofs.order.Passing.{leg-within, leg-full, leg-long, leg-short, leg-whole}
+use Rattle.tape.proofs.order.Passing.{leg-passes, leg-bad}
 use Rattle.tape.proofs.order.leg.Statement.{statement}
 use Rattle.tape.proofs.order.leg.Tie as tie
 

@@ -1,6 +1,6 @@
 -- `leg_good` meets its contract: the numbers of a leg stand on the tape, and are those of its kind.
 use borrow.Author.Needs.{needs}
-use Rattle.tape.proofs.Passing.{leg-room, leg-there}
+use Rattle.tape.proofs.order.Passing.{leg-room, leg-there}
 use Rattle.tape.proofs.order.leg_good.Statement.{statement}
 use Rattle.tape.proofs.order.leg_good.Tie as tie
 

@@ -1,6 +1,6 @@
 -- `leg_stands` meets its contract: past the end of the tape there is no kind.
 use borrow.Author.Needs.{needs}
-use Rattle.tape.proofs.Passing.{none-past}
+use Rattle.tape.proofs.order.Passing.{none-past}
 use Rattle.tape.proofs.order.leg_stands.Statement.{statement}
 use Rattle.tape.proofs.order.leg_stands.Tie as tie
 

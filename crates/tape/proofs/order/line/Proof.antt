@@ -3,8 +3,8 @@
 use Prim.Native.Nat.{_-_}
 use borrow.Author.Needs.{needs}
 use lib.ListN.{length}
-use Rattle.tape.proofs.Parts.{Lining, line-begins, leg-run, line-stopped, line-over}
-use Rattle.tape.proofs.Parts.{leg-here, leg-past, leg-few, leg-less}
+use Rattle.tape.proofs.order.Parts.{Lining, line-begins, leg-run, line-stopped, line-over}
+use Rattle.tape.proofs.order.Parts.{leg-here, leg-past, leg-few, leg-less}
 use Rattle.tape.proofs.order.line.Statement.{statement}
 use Rattle.tape.proofs.order.line.Tie as tie
 

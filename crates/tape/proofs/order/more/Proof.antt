@@ -7,11 +7,8 @@ use Rattle.tape.proofs.order.more.Tie as tie
 returns : tie.Need-returns
 returns c = search branch depth 20
 
-shared-slice-read-result : tie.Need-shared-slice-read-result
-shared-slice-read-result c = search needs
-
 returns-2 : tie.Need-returns-2
 returns-2 c = search branch depth 20
 
 pub more-spec : {M : Type 1} → statement M
-more-spec = tie.close (tie.spec returns shared-slice-read-result returns-2)
+more-spec = tie.close (tie.spec returns (λ c. search needs) returns-2)

@@ -7,9 +7,6 @@ use Rattle.tape.proofs.order.other.Tie as tie
 returns : tie.Need-returns
 returns c = search branch depth 20
 
-shared-slice-read-if2 : tie.Need-shared-slice-read-if2
-shared-slice-read-if2 c = search needs
-
 returns-2 : tie.Need-returns-2
 returns-2 c = search branch depth 20
 
@@ -17,4 +14,4 @@ returns-3 : tie.Need-returns-3
 returns-3 c = search branch depth 20
 
 pub other-spec : {M : Type 1} → statement M
-other-spec = tie.close (tie.spec returns shared-slice-read-if2 returns-2 returns-3)
+other-spec = tie.close (tie.spec returns (λ c. search needs) returns-2 returns-3)

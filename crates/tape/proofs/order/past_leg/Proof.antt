@@ -1,6 +1,6 @@
 -- `past_leg` meets its contract: a leg has nine bytes, and they stand on the tape.
 use borrow.Author.Needs.{needs}
-use Rattle.tape.proofs.Passing.{past-leg-is}
+use Rattle.tape.proofs.order.Passing.{past-leg-is}
 use Rattle.tape.proofs.order.past_leg.Statement.{statement}
 use Rattle.tape.proofs.order.past_leg.Tie as tie
 

@@ -1,7 +1,7 @@
 -- `past_row` meets its contract: the minute is read again from its place.
 use borrow.Author.Needs.{needs}
-use Rattle.records.specs.Record.{bodyOf, fieldsOf, table}
-use Rattle.tape.proofs.Passing.{past-row-is}
+use Rattle.records.specs.Record.{bodyOf, kindFields, table}
+use Rattle.tape.proofs.order.Passing.{past-row-is}
 use Rattle.tape.proofs.order.past_row.Statement.{statement}
 use Rattle.tape.proofs.order.past_row.Tie as tie
 
@@ -9,7 +9,7 @@ returns : tie.Need-returns
 returns c = search past-row-is
 
 pub past-row-spec : {M : Type 1} → statement M
-unfolding bodyOf fieldsOf table
+unfolding bodyOf kindFields table
 past-row-spec =
     tie.close
     (tie.spec

@@ -1,7 +1,7 @@
 -- `read_all` meets its contract: the opening is followed by the legs, and these by the close and
 -- the end, or the reading is the first refusal among them.
 use borrow.Author.Needs.{needs}
-use Rattle.tape.proofs.Parts.{opening-refused, line-begun, line-refused, line-read}
+use Rattle.tape.proofs.order.Parts.{opening-refused, line-begun, line-refused, line-read}
 use Rattle.tape.proofs.order.read_all.Statement.{statement}
 use Rattle.tape.proofs.order.read_all.Tie as tie
 

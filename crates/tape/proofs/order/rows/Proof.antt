@@ -3,9 +3,9 @@
 use Prim.Native.Nat.{_-_}
 use borrow.Author.Needs.{needs}
 use lib.ListN.{length}
-use Rattle.records.specs.Record.{bodyOf, fieldsOf, table}
-use Rattle.tape.proofs.Parts.{Along, rows-begin, row-here, row-fits, row-few, row-less}
-use Rattle.tape.proofs.Parts.{row-run, rows-stopped, rows-over}
+use Rattle.records.specs.Record.{bodyOf, kindFields, table}
+use Rattle.tape.proofs.order.Parts.{Along, rows-begin, row-here, row-fits, row-few, row-less}
+use Rattle.tape.proofs.order.Parts.{row-run, rows-stopped, rows-over}
 use Rattle.tape.proofs.order.rows.Statement.{statement}
 use Rattle.tape.proofs.order.rows.Tie as tie
 
@@ -19,14 +19,14 @@ loop-holds : tie.Need-loop-holds Inv-loop μ-loop
 loop-holds c = search rows-begin
 
 row-requires : tie.Need-row-requires Inv-loop μ-loop
-unfolding bodyOf fieldsOf table
+unfolding bodyOf kindFields table
 row-requires c κs = search (needs, row-here, row-fits, row-few)
 
 returns : tie.Need-returns Inv-loop μ-loop
 returns c = search rows-stopped
 
 past-row-requires : tie.Need-past-row-requires Inv-loop μ-loop
-unfolding bodyOf fieldsOf table
+unfolding bodyOf kindFields table
 past-row-requires c κs = search (row-fits, row-few)
 
 loop-less : tie.Need-loop-less Inv-loop μ-loop

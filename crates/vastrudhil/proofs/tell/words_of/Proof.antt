@@ -17,21 +17,6 @@ abbrev μ-loop : tie.MeasureT-loop
 loop-holds : tie.Need-loop-holds Inv-loop μ-loop
 loop-holds c = (search needs, refl, refl)
 
-mul-put : tie.Need-mul-put Inv-loop μ-loop
-mul-put c = search needs
-
-array-copy-out-put : tie.Need-array-copy-out-put Inv-loop μ-loop
-array-copy-out-put c = search needs
-
-put-requires : tie.Need-put-requires Inv-loop μ-loop
-put-requires c κs = search needs
-
-add-k : tie.Need-add-k Inv-loop μ-loop
-add-k c = search needs
-
-loop-less : tie.Need-loop-less Inv-loop μ-loop
-loop-less c = search needs
-
 loop-again : tie.Need-loop-again Inv-loop μ-loop
 loop-again c = (search needs, search stored-next, search stored-length)
 
@@ -39,4 +24,16 @@ returns : tie.Need-returns Inv-loop μ-loop
 returns c = search stored-all
 
 pub words-of-spec : {M : Type 1} → statement M
-words-of-spec = tie.close (tie.spec Inv-loop μ-loop loop-holds mul-put array-copy-out-put put-requires add-k loop-less loop-again returns)
+words-of-spec =
+    tie.close
+    (tie.spec
+    Inv-loop
+    μ-loop
+    loop-holds
+    (λ c. search needs)
+    (λ c. search needs)
+    (λ c κs. search needs)
+    (λ c. search needs)
+    (λ c. search needs)
+    loop-again
+    returns)

@@ -7,11 +7,8 @@ use mir.Syntax.{w64}
 use Rattle.whole.proofs.Whole.of_size.Statement.{statement}
 use Rattle.whole.proofs.Whole.of_size.Tie as tie
 
-cast-t2 : tie.Need-cast-t2
-cast-t2 c = search needs
-
 returns : tie.Need-returns
 returns c = (toZ-pos w64 (c .pre), ap natAbs (toZ-pos w64 (c .pre)))
 
 pub of-size-spec : {M : Type 1} → statement M
-of-size-spec = tie.close (tie.spec cast-t2 returns)
+of-size-spec = tie.close (tie.spec (λ c. search needs) returns)

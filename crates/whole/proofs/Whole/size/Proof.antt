@@ -23,10 +23,14 @@ cast-result-2 c = above-cast (c .before .before .before .before .before .args .s
 returns : tie.Need-returns
 returns c = below-size (c .before .before .before .before .before .args .self .v) (search needs) (c .before .before .if1 .taken)
 
-returns-2 : tie.Need-returns-2
-returns-2 c = search needs
-
 pub size-spec : {M : Type 1} → statement M
 size-spec =
     tie.close
-    (tie.spec add-result sub-result cast-result add-result-2 cast-result-2 returns returns-2)
+    (tie.spec
+    add-result
+    sub-result
+    cast-result
+    add-result-2
+    cast-result-2
+    returns
+    (λ c. search needs))

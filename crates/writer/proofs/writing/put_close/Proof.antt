@@ -1,35 +1,29 @@
 -- `put_close` meets its contract: the kind's byte, then each field behind the one before.
 use denote.Ref.{now}
 use borrow.Author.Needs.{needs}
-use Rattle.records.specs.Record.{bodyOf, fieldsOf, table}
-use Rattle.writer.proofs.Stores.{close-stored}
+use Rattle.records.specs.Record.{bodyOf, kindFields, table}
+use Rattle.writer.proofs.writing.Stores.{close-stored}
 use Rattle.writer.proofs.writing.put_close.Statement.{statement}
 use Rattle.writer.proofs.writing.put_close.Tie as tie
 
-put-kind-requires : tie.Need-put-kind-requires
-put-kind-requires c κs = search needs
-
 put-four-requires : tie.Need-put-four-requires
-unfolding bodyOf fieldsOf table
+unfolding bodyOf kindFields table
 put-four-requires c κs = search needs
 
 put-four-requires-2 : tie.Need-put-four-requires-2
-unfolding bodyOf fieldsOf table
+unfolding bodyOf kindFields table
 put-four-requires-2 c κs = search needs
 
 put-four-requires-3 : tie.Need-put-four-requires-3
-unfolding bodyOf fieldsOf table
+unfolding bodyOf kindFields table
 put-four-requires-3 c κs = search needs
 
 put-four-requires-4 : tie.Need-put-four-requires-4
-unfolding bodyOf fieldsOf table
+unfolding bodyOf kindFields table
 put-four-requires-4 c κs = search needs
 
-same-length : tie.Need-same-length
-same-length c = search needs
-
 returns : tie.Need-returns
-unfolding bodyOf fieldsOf table
+unfolding bodyOf kindFields table
 returns c =
     let d = c .before .before in
     let e = d .before .before .before .before in
@@ -45,10 +39,10 @@ pub put-close-spec : {M : Type 1} → statement M
 put-close-spec =
     tie.close
     (tie.spec
-    put-kind-requires
+    (λ c κs. search needs)
     put-four-requires
     put-four-requires-2
     put-four-requires-3
     put-four-requires-4
-    same-length
+    (λ c. search needs)
     returns)

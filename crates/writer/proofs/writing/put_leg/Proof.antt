@@ -1,27 +1,21 @@
 -- `put_leg` meets its contract: the kind's byte, then each field behind the one before.
 use denote.Ref.{now}
 use borrow.Author.Needs.{needs}
-use Rattle.records.specs.Record.{bodyOf, fieldsOf, table}
-use Rattle.writer.proofs.Stores.{leg-stored}
+use Rattle.records.specs.Record.{bodyOf, kindFields, table}
+use Rattle.writer.proofs.writing.Stores.{leg-stored}
 use Rattle.writer.proofs.writing.put_leg.Statement.{statement}
 use Rattle.writer.proofs.writing.put_leg.Tie as tie
 
-put-kind-requires : tie.Need-put-kind-requires
-put-kind-requires c κs = search needs
-
 put-four-requires : tie.Need-put-four-requires
-unfolding bodyOf fieldsOf table
+unfolding bodyOf kindFields table
 put-four-requires c κs = search needs
 
 put-four-requires-2 : tie.Need-put-four-requires-2
-unfolding bodyOf fieldsOf table
+unfolding bodyOf kindFields table
 put-four-requires-2 c κs = search needs
 
-same-length : tie.Need-same-length
-same-length c = search needs
-
 returns : tie.Need-returns
-unfolding bodyOf fieldsOf table
+unfolding bodyOf kindFields table
 returns c =
     let d = c .before .before in
     let e = d .before .before .before .before in
@@ -33,4 +27,9 @@ returns c =
 pub put-leg-spec : {M : Type 1} → statement M
 put-leg-spec =
     tie.close
-    (tie.spec put-kind-requires put-four-requires put-four-requires-2 same-length returns)
+    (tie.spec
+    (λ c κs. search needs)
+    put-four-requires
+    put-four-requires-2
+    (λ c. search needs)
+    returns)

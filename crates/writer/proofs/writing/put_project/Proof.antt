@@ -1,30 +1,21 @@
 -- `put_project` meets its contract: the kind's byte, then each field behind the one before.
 use denote.Ref.{now}
 use borrow.Author.Needs.{needs}
-use Rattle.records.specs.Record.{bodyOf, fieldsOf, table}
-use Rattle.writer.proofs.Stores.{project-stored}
+use Rattle.records.specs.Record.{bodyOf, kindFields, table}
+use Rattle.writer.proofs.writing.Stores.{project-stored}
 use Rattle.writer.proofs.writing.put_project.Statement.{statement}
 use Rattle.writer.proofs.writing.put_project.Tie as tie
 
-raw-requires : tie.Need-raw-requires
-raw-requires c κs = search needs
-
-put-kind-requires : tie.Need-put-kind-requires
-put-kind-requires c κs = search needs
-
 put-two-requires : tie.Need-put-two-requires
-unfolding bodyOf fieldsOf table
+unfolding bodyOf kindFields table
 put-two-requires c κs = search needs
 
 put-two-requires-2 : tie.Need-put-two-requires-2
-unfolding bodyOf fieldsOf table
+unfolding bodyOf kindFields table
 put-two-requires-2 c κs = search needs
 
-same-length : tie.Need-same-length
-same-length c = search needs
-
 returns : tie.Need-returns
-unfolding bodyOf fieldsOf table
+unfolding bodyOf kindFields table
 returns c =
     let d = c .before .before in
     let e = d .before .before .before .before in
@@ -38,9 +29,9 @@ pub put-project-spec : {M : Type 1} → statement M
 put-project-spec =
     tie.close
     (tie.spec
-    raw-requires
-    put-kind-requires
+    (λ c κs. search needs)
+    (λ c κs. search needs)
     put-two-requires
     put-two-requires-2
-    same-length
+    (λ c. search needs)
     returns)

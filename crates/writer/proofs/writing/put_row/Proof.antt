@@ -1,27 +1,21 @@
 -- `put_row` meets its contract: the kind's byte, then each field behind the one before.
 use denote.Ref.{now}
 use borrow.Author.Needs.{needs}
-use Rattle.records.specs.Record.{bodyOf, fieldsOf, table}
-use Rattle.writer.proofs.Stores.{row-stored}
+use Rattle.records.specs.Record.{bodyOf, kindFields, table}
+use Rattle.writer.proofs.writing.Stores.{row-stored}
 use Rattle.writer.proofs.writing.put_row.Statement.{statement}
 use Rattle.writer.proofs.writing.put_row.Tie as tie
 
-put-kind-requires : tie.Need-put-kind-requires
-put-kind-requires c κs = search needs
-
 put-two-requires : tie.Need-put-two-requires
-unfolding bodyOf fieldsOf table
+unfolding bodyOf kindFields table
 put-two-requires c κs = search needs
 
 put-four-requires : tie.Need-put-four-requires
-unfolding bodyOf fieldsOf table
+unfolding bodyOf kindFields table
 put-four-requires c κs = search needs
 
-same-length : tie.Need-same-length
-same-length c = search needs
-
 returns : tie.Need-returns
-unfolding bodyOf fieldsOf table
+unfolding bodyOf kindFields table
 returns c =
     let d = c .before .before in
     let e = d .before .before .before .before in
@@ -32,4 +26,10 @@ returns c =
 
 pub put-row-spec : {M : Type 1} → statement M
 put-row-spec =
-    tie.close (tie.spec put-kind-requires put-two-requires put-four-requires same-length returns)
+    tie.close
+    (tie.spec
+    (λ c κs. search needs)
+    put-two-requires
+    put-four-requires
+    (λ c. search needs)
+    returns)

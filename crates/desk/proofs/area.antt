@@ -1,0 +1,2 @@
+-- The laws of the area round a loop.
+pub mod Looping

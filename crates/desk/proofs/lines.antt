@@ -1,0 +1,2 @@
+-- The laws of the lines of the stations.
+pub mod StationLines

@@ -1,0 +1,32 @@
+-- `put_coordinates` meets its contract: northing, easting and the line feed are put one behind the other.
+use borrow.Author.Needs.{needs}
+use Rattle.text.proofs.Putting.{room-one, room-two, room-three, then}
+use Rattle.desk.proofs.lines.put_coordinates.Statement.{statement}
+use Rattle.desk.proofs.lines.put_coordinates.Tie as tie
+
+put-named-requires : tie.Need-put-named-requires
+put-named-requires c κs = (search needs, search room-one)
+
+put-named-requires-2 : tie.Need-put-named-requires-2
+put-named-requires-2 c κs = (search needs, search room-two)
+
+put-requires : tie.Need-put-requires
+put-requires c κs = search room-three
+
+returns : tie.Need-returns
+returns c = search then
+
+pub put-coordinates-spec : {M : Type 1} → statement M
+put-coordinates-spec =
+    tie.close
+    (tie.spec
+    (λ c. search needs)
+    (λ c. search needs)
+    put-named-requires
+    (λ c. search needs)
+    (λ c. search needs)
+    put-named-requires-2
+    (λ c. search needs)
+    put-requires
+    (λ c. search needs)
+    returns)

@@ -1,0 +1,2 @@
+-- The laws of factors and grid distances.
+pub mod Distances

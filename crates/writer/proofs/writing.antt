@@ -1,0 +1,2 @@
+-- The laws of what the stores of a record leave.
+pub mod Stores
