@@ -5,8 +5,8 @@ use Prim.Native.Nat.{ℕ, zero, suc, _+_}
 use lib.IntN.{ℤ, _+ℤ_, _-ℤ_}
 use Rattle.steps.specs.Share.{share}
 
--- the fixed first and last coordinates, the number of legs, the latitude or departure of each, and its
--- grid distance
+-- the fixed first and last coordinates, the number of legs, the latitude or departure of each, and
+-- its grid distance
 pub record Line : Type 0 where
   pub from : ℤ
   pub to : ℤ

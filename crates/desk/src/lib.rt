@@ -141,9 +141,9 @@ fn work(tape: &[u8], c: Control, words: &mut [i64]) -> Answer
     }
 }
 
-// The traverse by the sines of a lent table, whatever it holds: a tape in, an adjusted traverse out.
-// No word is written on a refusal. A caller that works many tapes takes the desk's table once and
-// lends it.
+// The traverse by the sines of a lent table, whatever it holds: a tape in, an adjusted traverse
+// out. No word is written on a refusal. A caller that works many tapes takes the desk's table once
+// and lends it.
 pub fn traverse_in(table: &[u32; ENTRIES], tape: &[u8], words: &mut [i64]) -> Answer
     ensures answer { λ r. ⌜ toldTraverse r
         ≡ traversedBy (entryIn (now (table .entry))) (now (tape .entry))

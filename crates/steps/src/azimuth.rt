@@ -1,5 +1,5 @@
-// Azimuths, clockwise from south, in tenths of a second: carried along the legs, closed on the given
-// one, and balanced.
+// Azimuths, clockwise from south, in tenths of a second: carried along the legs, closed on the
+// given one, and balanced.
 use crate::wide;
 use answer::Amount;
 use answer::Count;
@@ -48,8 +48,8 @@ pub fn from_mark(mark: u32, angle: u32) -> Count
     Count::Is(modulo(mark + angle) as u64)
 }
 
-// The azimuth of each next leg, and the closing azimuth, from the azimuth before and the angle right
-// there.
+// The azimuth of each next leg, and the closing azimuth, from the azimuth before and the angle
+// right there.
 pub fn onward(before: u32, angle: u32) -> Count
     ensures { λ r. ⌜ toldCount r ≡ onwardStep before angle ⌝ }
 {

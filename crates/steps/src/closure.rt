@@ -1,5 +1,5 @@
-// The closure test and the precision number. Closures are in hundredths, the sum s of grid distances
-// in thousandths of a foot.
+// The closure test and the precision number. Closures are in hundredths, the sum s of grid
+// distances in thousandths of a foot.
 use crate::root;
 use answer::Count;
 use answer::Verdict;

@@ -1,6 +1,6 @@
 // Numbers and words as text in the lent bytes, from an offset on. Each writer answers the offset
-// after what it wrote. A tool, as `whole` is: its functions ask for room, and every caller is proved
-// to have it.
+// after what it wrote. A tool, as `whole` is: its functions ask for room, and every caller is
+// proved to have it.
 use whole::Whole;
 ghost use mathlib.Core.Path.{_≡_};
 ghost use mathlib.Core.List.{_++_};

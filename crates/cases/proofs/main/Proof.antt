@@ -33,13 +33,5 @@ returns-2 c = tt
 pub main-spec : {M : Type 1} → statement M
 main-spec =
     tie.close
-    (tie.spec
-    Inv-loop
-    μ-loop
-    loop-holds
-    one-case-requires
-    sub-turns
-    loop-less
-    loop-again
-    returns
-    returns-2)
+    (tie.spec Inv-loop μ-loop
+    loop-holds one-case-requires sub-turns loop-less loop-again returns returns-2)

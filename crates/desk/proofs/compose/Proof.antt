@@ -14,10 +14,6 @@ returns-2 c = search fails-showed
 pub compose-spec : {M : Type 1} → statement M
 compose-spec =
     tie.close
-    (tie.spec
-    (λ c κs. search needs)
-    (λ c κs. search needs)
-    (λ c κs. search needs)
+    (tie.spec (λ c κs. search needs) (λ c κs. search needs) (λ c κs. search needs)
     (λ c. search needs)
-    returns
-    returns-2)
+    returns returns-2)

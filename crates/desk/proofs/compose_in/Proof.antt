@@ -12,4 +12,8 @@ returns : tie.Need-returns
 returns c = search showed
 
 pub compose-in-spec : {M : Type 1} → statement M
-compose-in-spec = tie.close (tie.spec (λ c. search needs) (λ c κs. search needs) show-requires (λ c. search needs) returns)
+compose-in-spec =
+    tie.close
+    (tie.spec (λ c. search needs) (λ c κs. search needs)
+    show-requires (λ c. search needs)
+    returns)

@@ -19,15 +19,8 @@ returns-3 c = (search refusal-length, search refusal-over)
 pub print-spec : {M : Type 1} → statement M
 print-spec =
     tie.close
-    (tie.spec
-    returns
-    (λ c κs. search needs)
-    (λ c. search needs)
-    (λ c. search needs)
-    (λ c. search needs)
-    (λ c. search needs)
-    put-count-requires
-    (λ c. search needs)
-    returns-2
-    (λ c. search needs)
+    (tie.spec returns (λ c κs. search needs) (λ c. search needs) (λ c. search needs)
+    (λ c. search needs) (λ c. search needs)
+    put-count-requires (λ c. search needs)
+    returns-2 (λ c. search needs)
     returns-3)

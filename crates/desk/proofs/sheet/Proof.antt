@@ -17,12 +17,5 @@ returns-2 c = search refused-showed
 pub sheet-spec : {M : Type 1} → statement M
 sheet-spec =
     tie.close
-    (tie.spec
-    returns
-    (λ c κs. search needs)
-    (λ c. search needs)
-    (λ c. search needs)
-    compose-requires
-    returns-2
-    (λ c. search needs)
-    (λ c. search needs))
+    (tie.spec returns (λ c κs. search needs) (λ c. search needs) (λ c. search needs)
+    compose-requires returns-2 (λ c. search needs) (λ c. search needs))

@@ -17,12 +17,5 @@ returns-2 c = search refused-showed
 pub sheet-in-spec : {M : Type 1} → statement M
 sheet-in-spec =
     tie.close
-    (tie.spec
-    returns
-    (λ c κs. search needs)
-    (λ c. search needs)
-    (λ c. search needs)
-    compose-in-requires
-    returns-2
-    (λ c. search needs)
-    (λ c. search needs))
+    (tie.spec returns (λ c κs. search needs) (λ c. search needs) (λ c. search needs)
+    compose-in-requires returns-2 (λ c. search needs) (λ c. search needs))

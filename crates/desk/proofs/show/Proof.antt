@@ -16,10 +16,6 @@ returns-2 c = (search text-page, search text-bytes)
 pub show-spec : {M : Type 1} → statement M
 show-spec =
     tie.close
-    (tie.spec
-    (λ c. search needs)
-    (λ c. search needs)
-    put-all-requires
-    returns
-    (λ c. search needs)
+    (tie.spec (λ c. search needs) (λ c. search needs)
+    put-all-requires returns (λ c. search needs)
     returns-2)

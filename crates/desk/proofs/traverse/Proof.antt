@@ -19,12 +19,6 @@ returns-3 c = (search good-told, search good-words)
 pub traverse-spec : {M : Type 1} → statement M
 traverse-spec =
     tie.close
-    (tie.spec
-    returns
-    (λ c κs. search needs)
-    (λ c. search needs)
-    (λ c. search needs)
-    work-requires
-    returns-2
-    (λ c. search needs)
+    (tie.spec returns (λ c κs. search needs) (λ c. search needs) (λ c. search needs)
+    work-requires returns-2 (λ c. search needs)
     returns-3)

@@ -16,15 +16,7 @@ returns-2 c = (search settled-told, search settled-words)
 pub work-in-spec : {M : Type 1} → statement M
 work-in-spec =
     tie.close
-    (tie.spec
-    (λ c. search needs)
-    (λ c. search needs)
-    (λ c κs. search needs)
-    (λ c. search needs)
-    (λ c. search needs)
-    (λ c. search needs)
-    (λ c. search needs)
-    settle-requires
-    returns
-    (λ c. search needs)
+    (tie.spec (λ c. search needs) (λ c. search needs) (λ c κs. search needs) (λ c. search needs)
+    (λ c. search needs) (λ c. search needs) (λ c. search needs)
+    settle-requires returns (λ c. search needs)
     returns-2)

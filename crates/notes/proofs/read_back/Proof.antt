@@ -23,13 +23,7 @@ returns-2 c = search (needs, none-refused)
 pub read-back-spec : {M : Type 1} → statement M
 read-back-spec =
     tie.close
-    (tie.spec
-    (λ c. search needs)
-    slice-aggregate-read
-    (λ c κs. search needs)
-    (λ c. search needs)
-    (λ c. search needs)
-    (λ c κs. search needs)
-    (λ c κs. search needs)
-    returns-2
-    (λ c. search needs))
+    (tie.spec (λ c. search needs)
+    slice-aggregate-read (λ c κs. search needs) (λ c. search needs) (λ c. search needs)
+    (λ c κs. search needs) (λ c κs. search needs)
+    returns-2 (λ c. search needs))

@@ -19,10 +19,6 @@ returns-2 c = search no-bom
 pub without-bom-spec : {M : Type 1} → statement M
 without-bom-spec =
     tie.close
-    (tie.spec
-    (λ c κs. search needs)
-    sub-result
-    part-result-start
-    (λ c. search needs)
-    returns
-    returns-2)
+    (tie.spec (λ c κs. search needs)
+    sub-result part-result-start (λ c. search needs)
+    returns returns-2)

@@ -13,14 +13,6 @@ slice-aggregate-write-all c = search front-length
 pub main-spec : {M : Type 1} → statement M
 main-spec =
     tie.close
-    (tie.spec
-    (λ c. search needs)
-    (λ c κs. search needs)
-    (λ c. search needs)
-    (λ c. search needs)
-    (λ c. search needs)
-    (λ c κs. search needs)
-    array-share-prefix-out
-    slice-aggregate-write-all
-    (λ c κs. search needs)
-    (λ c. search needs))
+    (tie.spec (λ c. search needs) (λ c κs. search needs) (λ c. search needs) (λ c. search needs)
+    (λ c. search needs) (λ c κs. search needs)
+    array-share-prefix-out slice-aggregate-write-all (λ c κs. search needs) (λ c. search needs))

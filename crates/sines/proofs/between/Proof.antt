@@ -28,13 +28,5 @@ returns-2 c = let s = c .before .before .args in (rw (c .half-up .ensures .0) (f
 pub between-spec : {M : Type 1} → statement M
 between-spec =
     tie.close
-    (tie.spec
-    (λ c κs. search needs)
-    (λ c. search needs)
-    (λ c. search needs)
-    (λ c. search needs)
-    mul-half-up
-    half-up-requires
-    cast-result
-    sub-result
-    returns-2)
+    (tie.spec (λ c κs. search needs) (λ c. search needs) (λ c. search needs) (λ c. search needs)
+    mul-half-up half-up-requires cast-result sub-result returns-2)

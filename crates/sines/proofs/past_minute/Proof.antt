@@ -17,9 +17,7 @@ returns-2 c = (search lent-line, search needs)
 pub past-minute-spec : {M : Type 1} → statement M
 past-minute-spec =
     tie.close
-    (tie.spec
-    (λ c. search needs) (λ c. search needs) (λ c. search needs) (λ c. search needs)
+    (tie.spec (λ c. search needs) (λ c. search needs) (λ c. search needs) (λ c. search needs)
     (λ c. search needs) (λ c κs. search needs)
-    returns
-    (λ c κs. search needs) (λ c κs. search needs) (λ c κs. search needs)
+    returns (λ c κs. search needs) (λ c κs. search needs) (λ c κs. search needs)
     returns-2)

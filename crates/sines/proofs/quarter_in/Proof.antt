@@ -13,8 +13,6 @@ returns c =
 pub quarter-in-spec : {M : Type 1} → statement M
 quarter-in-spec =
     tie.close
-    (tie.spec
+    (tie.spec (λ c κs. search needs) (λ c. search needs) (λ c. search needs) (λ c. search needs)
     (λ c κs. search needs)
-    (λ c. search needs) (λ c. search needs)
-    (λ c. search needs) (λ c κs. search needs)
     returns)

@@ -28,11 +28,5 @@ returns c = let s = c .before .args in (rw (c .half-up .ensures .0) (rising (s .
 pub rise-spec : {M : Type 1} → statement M
 rise-spec =
     tie.close
-    (tie.spec
-    (λ c. search needs)
-    (λ c. search needs)
-    mul-half-up
-    half-up-requires
-    cast-result
-    add-result
-    returns)
+    (tie.spec (λ c. search needs) (λ c. search needs)
+    mul-half-up half-up-requires cast-result add-result returns)

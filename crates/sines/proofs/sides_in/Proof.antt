@@ -13,9 +13,5 @@ returns-2 c = (search sides-are, (search sine-given, search cosine-given))
 pub sides-in-spec : {M : Type 1} → statement M
 sides-in-spec =
     tie.close
-    (tie.spec
-    returns
-    (λ c κs. search needs)
-    (λ c κs. search needs)
-    (λ c κs. search needs)
+    (tie.spec returns (λ c κs. search needs) (λ c κs. search needs) (λ c κs. search needs)
     returns-2)

@@ -16,9 +16,5 @@ returns-2 c = (search sine-told, search needs)
 pub sine-in-spec : {M : Type 1} → statement M
 sine-in-spec =
     tie.close
-    (tie.spec
-    returns
-    (λ c κs. search needs)
-    (λ c κs. search needs)
-    (λ c κs. search needs)
+    (tie.spec returns (λ c κs. search needs) (λ c κs. search needs) (λ c κs. search needs)
     returns-2)

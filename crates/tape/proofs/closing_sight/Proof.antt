@@ -16,11 +16,5 @@ returns-3 c = search (none-sight, far-sight)
 pub closing-sight-spec : {M : Type 1} → statement M
 closing-sight-spec =
     tie.close
-    (tie.spec
-    (λ c κs. search needs)
-    (λ c. search needs)
-    (λ c. search needs)
-    (λ c κs. search needs)
-    returns
-    returns-2
-    returns-3)
+    (tie.spec (λ c κs. search needs) (λ c. search needs) (λ c. search needs) (λ c κs. search needs)
+    returns returns-2 returns-3)

@@ -16,16 +16,7 @@ closing-sight-requires-2 c κs = search far-leg
 pub sight-at-spec : {M : Type 1} → statement M
 sight-at-spec =
     tie.close
-    (tie.spec
-    (λ c κs. search needs)
-    (λ c. search needs)
-    (λ c. search needs)
-    (λ c κs. search needs)
-    (λ c. search needs)
-    (λ c κs. search needs)
-    (λ c. search needs)
-    returns
-    closing-sight-requires
-    (λ c. search needs)
-    closing-sight-requires-2
-    (λ c. search needs))
+    (tie.spec (λ c κs. search needs) (λ c. search needs) (λ c. search needs) (λ c κs. search needs)
+    (λ c. search needs) (λ c κs. search needs) (λ c. search needs)
+    returns closing-sight-requires (λ c. search needs)
+    closing-sight-requires-2 (λ c. search needs))

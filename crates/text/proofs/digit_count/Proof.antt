@@ -36,4 +36,7 @@ returns-10 : tie.Need-returns-10
 returns-10 c = digitCount-exact 9 _ (omega arith) (omega arith)
 
 pub digit-count-spec : {M : Type 1} → statement M
-digit-count-spec = tie.close (tie.spec returns returns-2 returns-3 returns-4 returns-5 returns-6 returns-7 returns-8 returns-9 returns-10)
+digit-count-spec =
+    tie.close
+    (tie.spec returns returns-2 returns-3 returns-4 returns-5 returns-6 returns-7 returns-8
+    returns-9 returns-10)

@@ -25,11 +25,6 @@ returns c = search count-last
 pub long-digit-count-spec : {M : Type 1} → statement M
 long-digit-count-spec =
     tie.close
-    (tie.spec
-    Inv-loop
-    μ-loop
-    (λ c. search needs)
-    add-k
-    (λ c. search needs)
-    loop-again
-    returns)
+    (tie.spec Inv-loop μ-loop (λ c. search needs)
+    add-k (λ c. search needs)
+    loop-again returns)

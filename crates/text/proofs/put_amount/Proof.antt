@@ -19,9 +19,6 @@ returns c = search amount-put
 pub put-amount-spec : {M : Type 1} → statement M
 put-amount-spec =
     tie.close
-    (tie.spec
-    put-sign-requires
-    (λ c κs. search needs)
-    put-pointed-requires
-    (λ c. search needs)
+    (tie.spec put-sign-requires (λ c κs. search needs)
+    put-pointed-requires (λ c. search needs)
     returns)

@@ -19,13 +19,8 @@ returns-2 c = search decimal-put
 pub put-decimal-spec : {M : Type 1} → statement M
 put-decimal-spec =
     tie.close
-    (tie.spec
-    (λ c. search needs)
-    (λ c κs. search needs)
-    put-pairs-requires
-    (λ c. search needs)
-    returns
-    (λ c κs. search needs)
-    put-digits-requires
-    (λ c. search needs)
+    (tie.spec (λ c. search needs) (λ c κs. search needs)
+    put-pairs-requires (λ c. search needs)
+    returns (λ c κs. search needs)
+    put-digits-requires (λ c. search needs)
     returns-2)

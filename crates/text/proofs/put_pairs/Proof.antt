@@ -36,15 +36,11 @@ returns-2 c = search odd-last
 pub put-pairs-spec : {M : Type 1} → statement M
 put-pairs-spec =
     tie.close
-    (tie.spec
-    Inv-loop
-    μ-loop
-    loop-holds
-    (λ c. search needs) (λ c κs. search needs) (λ c. search needs) (λ c. search needs) (λ c. search needs) (λ c. search needs) (λ c. search needs) (λ c. search needs)
-    slice-write-out-2
+    (tie.spec Inv-loop μ-loop
+    loop-holds (λ c. search needs) (λ c κs. search needs) (λ c. search needs) (λ c. search needs)
+    (λ c. search needs) (λ c. search needs) (λ c. search needs) (λ c. search needs)
+    slice-write-out-2 (λ c. search needs)
+    loop-again (λ c. search needs) (λ c. search needs)
+    returns (λ c. search needs) (λ c. search needs) (λ c. search needs) (λ c. search needs)
     (λ c. search needs)
-    loop-again
-    (λ c. search needs) (λ c. search needs)
-    returns
-    (λ c. search needs) (λ c. search needs) (λ c. search needs) (λ c. search needs) (λ c. search needs)
     returns-2)

@@ -19,11 +19,7 @@ returns c = search then
 pub put-pointed-spec : {M : Type 1} → statement M
 put-pointed-spec =
     tie.close
-    (tie.spec
-    (λ c. search needs)
-    put-decimal-requires
-    (λ c. search needs)
-    put-requires
-    put-digits-requires
-    (λ c. search needs)
+    (tie.spec (λ c. search needs)
+    put-decimal-requires (λ c. search needs)
+    put-requires put-digits-requires (λ c. search needs)
     returns)

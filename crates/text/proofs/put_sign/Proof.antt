@@ -19,12 +19,7 @@ returns-2 c = search plus-put
 pub put-sign-spec : {M : Type 1} → statement M
 put-sign-spec =
     tie.close
-    (tie.spec
-    (λ c κs. search needs)
-    (λ c. search needs)
-    put-requires
-    (λ c. search needs)
-    returns
-    put-requires-2
-    (λ c. search needs)
+    (tie.spec (λ c κs. search needs) (λ c. search needs)
+    put-requires (λ c. search needs)
+    returns put-requires-2 (λ c. search needs)
     returns-2)

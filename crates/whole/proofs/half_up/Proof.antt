@@ -11,9 +11,5 @@ returns c = (refl, search half-up-least)
 pub half-up-spec : {M : Type 1} → statement M
 half-up-spec =
     tie.close
-    (tie.spec
-    (λ c. search needs)
-    (λ c. search needs)
-    (λ c. search needs)
-    (λ c. search needs)
+    (tie.spec (λ c. search needs) (λ c. search needs) (λ c. search needs) (λ c. search needs)
     returns)

@@ -51,39 +51,18 @@ returns-5 c = search back
 pub lend-on-spec : {M : Type 1} → statement M
 lend-on-spec =
     tie.close
-    (tie.spec
+    (tie.spec (λ c. search needs) (λ c. search needs) (λ c. search needs) (λ c. search needs)
+    put-row-requires (λ c. search needs) (λ c. search needs) (λ c. search needs)
     (λ c. search needs)
+    put-project-requires (λ c. search needs) (λ c. search needs) (λ c. search needs)
     (λ c. search needs)
+    put-start-requires (λ c. search needs) (λ c. search needs) (λ c. search needs)
     (λ c. search needs)
+    put-leg-requires (λ c. search needs) (λ c. search needs) (λ c. search needs)
     (λ c. search needs)
-    put-row-requires
-    (λ c. search needs)
-    (λ c. search needs)
-    (λ c. search needs)
-    (λ c. search needs)
-    put-project-requires
-    (λ c. search needs)
-    (λ c. search needs)
-    (λ c. search needs)
-    (λ c. search needs)
-    put-start-requires
-    (λ c. search needs)
-    (λ c. search needs)
-    (λ c. search needs)
-    (λ c. search needs)
-    put-leg-requires
-    (λ c. search needs)
-    (λ c. search needs)
-    (λ c. search needs)
-    (λ c. search needs)
-    put-close-requires
-    (λ c. search needs)
-    returns
-    (λ c. search needs)
-    returns-2
-    (λ c. search needs)
-    returns-3
-    (λ c. search needs)
-    returns-4
-    (λ c. search needs)
+    put-close-requires (λ c. search needs)
+    returns (λ c. search needs)
+    returns-2 (λ c. search needs)
+    returns-3 (λ c. search needs)
+    returns-4 (λ c. search needs)
     returns-5)

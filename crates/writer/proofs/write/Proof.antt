@@ -24,16 +24,8 @@ returns-4 c = search (wrote, room-given)
 pub write-spec : {M : Type 1} → statement M
 write-spec =
     tie.close
-    (tie.spec
-    (λ c κs. search needs)
-    (λ c κs. search needs)
-    returns
-    (λ c. search needs)
-    returns-2
-    (λ c κs. search needs)
-    lend-on-requires
-    (λ c. search needs)
-    (λ c. search needs)
-    (λ c. search needs)
-    returns-3
-    returns-4)
+    (tie.spec (λ c κs. search needs) (λ c κs. search needs)
+    returns (λ c. search needs)
+    returns-2 (λ c κs. search needs)
+    lend-on-requires (λ c. search needs) (λ c. search needs) (λ c. search needs)
+    returns-3 returns-4)

@@ -36,13 +36,5 @@ returns c = omega arith
 pub bytes-changed-spec : {M : Type 1} → statement M
 bytes-changed-spec =
     tie.close
-    (tie.spec
-    Inv-loop
-    μ-loop
-    loop-holds
-    shared-slice-read-if1
-    add-n
-    add-i
-    loop-less
-    loop-again
-    returns)
+    (tie.spec Inv-loop μ-loop
+    loop-holds shared-slice-read-if1 add-n add-i loop-less loop-again returns)

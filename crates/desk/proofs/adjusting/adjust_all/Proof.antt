@@ -14,10 +14,6 @@ returns c = (search needs, record { room = search needs; legs = refl; w = refl; 
 pub adjust-all-spec : {M : Type 1} → statement M
 adjust-all-spec =
     tie.close
-    (tie.spec
-    (λ c κs. search needs)
-    (λ c κs. search needs)
-    area-requires
-    (λ c κs. search needs)
-    (λ c. search needs)
+    (tie.spec (λ c κs. search needs) (λ c κs. search needs)
+    area-requires (λ c κs. search needs) (λ c. search needs)
     returns)

@@ -14,9 +14,6 @@ returns c = record { sound = search needs; room = search needs; room-run = searc
 pub closures-spec : {M : Type 1} → statement M
 closures-spec =
     tie.close
-    (tie.spec
-    (λ c κs. search needs)
-    closing-requires
-    (λ c. search needs)
-    (λ c. search needs)
+    (tie.spec (λ c κs. search needs)
+    closing-requires (λ c. search needs) (λ c. search needs)
     returns)

@@ -21,14 +21,7 @@ returns-2 c = (search (closure-far, lent-entries), search (words-far, lent-entri
 pub settle-spec : {M : Type 1} → statement M
 settle-spec =
     tie.close
-    (tie.spec
-    (λ c. search needs)
-    (λ c. search needs)
-    (λ c κs. search needs)
-    within-limit-requires
-    (λ c. search needs)
-    (λ c. search needs)
-    adjust-all-requires
-    (λ c. search needs)
-    returns
-    returns-2)
+    (tie.spec (λ c. search needs) (λ c. search needs) (λ c κs. search needs)
+    within-limit-requires (λ c. search needs) (λ c. search needs)
+    adjust-all-requires (λ c. search needs)
+    returns returns-2)

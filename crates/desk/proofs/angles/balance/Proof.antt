@@ -41,18 +41,10 @@ returns c = search filled-last
 pub balance-spec : {M : Type 1} → statement M
 balance-spec =
     tie.close
-    (tie.spec
-    Inv-loop
-    μ-loop
-    loop-holds
-    (λ c. search needs)
-    slice-read-balanced-leg
-    (λ c. search needs)
-    balanced-leg-requires
-    (λ c. search needs)
-    slice-write-azimuths
-    (λ c. search needs)
-    (λ c. search needs)
-    loop-again
-    (λ c. search needs)
+    (tie.spec Inv-loop μ-loop
+    loop-holds (λ c. search needs)
+    slice-read-balanced-leg (λ c. search needs)
+    balanced-leg-requires (λ c. search needs)
+    slice-write-azimuths (λ c. search needs) (λ c. search needs)
+    loop-again (λ c. search needs)
     returns)

@@ -14,11 +14,6 @@ returns c = (search balanced-is, search balanced-turned)
 pub balanced-leg-spec : {M : Type 1} → statement M
 balanced-leg-spec =
     tie.close
-    (tie.spec
-    (λ c. search needs)
-    (λ c κs. search needs)
-    (λ c κs. search needs)
-    (λ c κs. search needs)
-    (λ c κs. search needs)
-    cast-result
-    returns)
+    (tie.spec (λ c. search needs) (λ c κs. search needs) (λ c κs. search needs)
+    (λ c κs. search needs) (λ c κs. search needs)
+    cast-result returns)

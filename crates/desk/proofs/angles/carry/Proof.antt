@@ -70,21 +70,9 @@ returns c = (search carried-last, (search azimuths-last, search distances-last))
 pub carry-spec : {M : Type 1} → statement M
 carry-spec =
     tie.close
-    (tie.spec
-    Inv-loop
-    μ-loop
-    (λ c κs. search needs)
-    first-requires
-    loop-holds
-    (λ c. search needs)
-    (λ c. search needs)
-    (λ c. search needs)
-    (λ c. search needs)
-    (λ c κs. search needs)
-    (λ c. search needs)
-    next-requires
-    (λ c. search needs)
-    loop-again
-    (λ c. search needs)
-    (λ c. search needs)
+    (tie.spec Inv-loop μ-loop (λ c κs. search needs)
+    first-requires loop-holds (λ c. search needs) (λ c. search needs) (λ c. search needs)
+    (λ c. search needs) (λ c κs. search needs) (λ c. search needs)
+    next-requires (λ c. search needs)
+    loop-again (λ c. search needs) (λ c. search needs)
     returns)

@@ -38,15 +38,7 @@ returns c = search carried-last
 pub closing-azimuth-spec : {M : Type 1} → statement M
 closing-azimuth-spec =
     tie.close
-    (tie.spec
-    Inv-loop
-    μ-loop
-    (λ c κs. search needs)
-    first-requires
-    loop-holds
-    (λ c κs. search needs)
-    (λ c. search needs)
-    next-requires
-    (λ c. search needs)
-    loop-again
-    returns)
+    (tie.spec Inv-loop μ-loop (λ c κs. search needs)
+    first-requires loop-holds (λ c κs. search needs) (λ c. search needs)
+    next-requires (λ c. search needs)
+    loop-again returns)

@@ -10,8 +10,5 @@ returns c = (cc, search cross-size)
 pub cross-spec : {M : Type 1} → statement M
 cross-spec =
     tie.close
-    (tie.spec
-    (λ c κs. search needs)
-    (λ c κs. search needs)
-    (λ c κs. search needs)
+    (tie.spec (λ c κs. search needs) (λ c κs. search needs) (λ c κs. search needs)
     returns)

@@ -39,17 +39,8 @@ returns c = search sum-last
 pub round-spec : {M : Type 1} → statement M
 round-spec =
     tie.close
-    (tie.spec
-    Inv-loop
-    μ-loop
-    offsets-at-requires
-    loop-holds
+    (tie.spec Inv-loop μ-loop
+    offsets-at-requires loop-holds (λ c. search needs) (λ c. search needs)
+    offsets-at-requires-2 cross-requires (λ c κs. search needs) (λ c. search needs)
     (λ c. search needs)
-    (λ c. search needs)
-    offsets-at-requires-2
-    cross-requires
-    (λ c κs. search needs)
-    (λ c. search needs)
-    (λ c. search needs)
-    loop-again
-    returns)
+    loop-again returns)

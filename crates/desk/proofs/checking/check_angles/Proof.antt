@@ -27,14 +27,8 @@ returns-2 c = search checked-bad
 pub check-angles-spec : {M : Type 1} → statement M
 check-angles-spec =
     tie.close
-    (tie.spec
-    (λ c κs. search needs)
-    misclosure-of-requires
-    angles-close-requires
-    share-out-requires
+    (tie.spec (λ c κs. search needs)
+    misclosure-of-requires angles-close-requires share-out-requires (λ c. search needs)
     (λ c. search needs)
-    (λ c. search needs)
-    returns
-    (λ c. search needs)
-    (λ c. search needs)
+    returns (λ c. search needs) (λ c. search needs)
     returns-2)

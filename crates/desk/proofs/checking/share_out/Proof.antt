@@ -9,9 +9,5 @@ balance-requires c κs = (search needs, (search needs, search needs))
 pub share-out-spec : {M : Type 1} → statement M
 share-out-spec =
     tie.close
-    (tie.spec
-    (λ c. search needs)
-    balance-requires
-    (λ c κs. search needs)
-    (λ c. search needs)
-    (λ c. search needs))
+    (tie.spec (λ c. search needs)
+    balance-requires (λ c κs. search needs) (λ c. search needs) (λ c. search needs))

@@ -39,20 +39,10 @@ returns c = search put-last
 pub put-all-spec : {M : Type 1} → statement M
 put-all-spec =
     tie.close
-    (tie.spec
-    Inv-loop
-    μ-loop
-    loop-holds
-    (λ c. search needs)
-    word-requires
-    (λ c. search needs)
-    (λ c. search needs)
-    word-requires-2
-    (λ c. search needs)
-    shared-slice-read-put-station
-    put-station-requires
-    (λ c. search needs)
-    (λ c. search needs)
-    loop-again
-    (λ c. search needs)
+    (tie.spec Inv-loop μ-loop
+    loop-holds (λ c. search needs)
+    word-requires (λ c. search needs) (λ c. search needs)
+    word-requires-2 (λ c. search needs)
+    shared-slice-read-put-station put-station-requires (λ c. search needs) (λ c. search needs)
+    loop-again (λ c. search needs)
     returns)

@@ -14,9 +14,5 @@ returns c = search combined-is
 pub combined-spec : {M : Type 1} → statement M
 combined-spec =
     tie.close
-    (tie.spec
-    (λ c κs. search needs)
-    (λ c κs. search needs)
-    (λ c κs. search needs)
-    cast-result
-    returns)
+    (tie.spec (λ c κs. search needs) (λ c κs. search needs) (λ c κs. search needs)
+    cast-result returns)

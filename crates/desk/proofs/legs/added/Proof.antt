@@ -16,10 +16,7 @@ returns c = record { north = cc; east = cc; run = cc }
 pub added-spec : {M : Type 1} → statement M
 added-spec =
     tie.close
-    (tie.spec
-    (λ c κs. search needs)
-    plus-requires
-    (λ c κs. search needs)
-    plus-requires-2
-    (λ c. search needs)
+    (tie.spec (λ c κs. search needs)
+    plus-requires (λ c κs. search needs)
+    plus-requires-2 (λ c. search needs)
     returns)

@@ -40,17 +40,8 @@ returns c = (search ran-last, search stands-last)
 pub run-all-spec : {M : Type 1} → statement M
 run-all-spec =
     tie.close
-    (tie.spec
-    Inv-loop
-    μ-loop
-    (λ c κs. search needs)
-    (λ c κs. search needs)
-    loop-holds
-    advance-requires
-    (λ c. search needs)
-    keep-requires-2
-    (λ c. search needs)
-    loop-again
-    (λ c. search needs)
-    (λ c. search needs)
+    (tie.spec Inv-loop μ-loop (λ c κs. search needs) (λ c κs. search needs)
+    loop-holds advance-requires (λ c. search needs)
+    keep-requires-2 (λ c. search needs)
+    loop-again (λ c. search needs) (λ c. search needs)
     returns)

@@ -24,10 +24,6 @@ returns c = search then
 pub put-all-spec : {M : Type 1} → statement M
 put-all-spec =
     tie.close
-    (tie.spec
-    put-first-requires
-    (λ c. search needs)
-    put-stations-requires
-    put-area-requires
-    (λ c. search needs)
+    (tie.spec put-first-requires (λ c. search needs)
+    put-stations-requires put-area-requires (λ c. search needs)
     returns)

@@ -20,12 +20,7 @@ returns-2 c = search area-none
 pub put-area-spec : {M : Type 1} → statement M
 put-area-spec =
     tie.close
-    (tie.spec
-    (λ c. search needs)
-    (λ c. search needs)
-    put-named-requires
-    (λ c. search needs)
-    put-requires
-    (λ c. search needs)
-    returns
-    returns-2)
+    (tie.spec (λ c. search needs) (λ c. search needs)
+    put-named-requires (λ c. search needs)
+    put-requires (λ c. search needs)
+    returns returns-2)

@@ -24,15 +24,8 @@ returns c = search then
 pub put-closures-spec : {M : Type 1} → statement M
 put-closures-spec =
     tie.close
-    (tie.spec
-    (λ c. search needs)
-    (λ c. search needs)
-    put-named-requires
-    (λ c. search needs)
-    (λ c. search needs)
-    put-named-requires-2
-    (λ c. search needs)
-    (λ c. search needs)
-    put-named-requires-3
-    (λ c. search needs)
+    (tie.spec (λ c. search needs) (λ c. search needs)
+    put-named-requires (λ c. search needs) (λ c. search needs)
+    put-named-requires-2 (λ c. search needs) (λ c. search needs)
+    put-named-requires-3 (λ c. search needs)
     returns)

@@ -19,14 +19,8 @@ returns c = search then
 pub put-coordinates-spec : {M : Type 1} → statement M
 put-coordinates-spec =
     tie.close
-    (tie.spec
-    (λ c. search needs)
-    (λ c. search needs)
-    put-named-requires
-    (λ c. search needs)
-    (λ c. search needs)
-    put-named-requires-2
-    (λ c. search needs)
-    put-requires
-    (λ c. search needs)
+    (tie.spec (λ c. search needs) (λ c. search needs)
+    put-named-requires (λ c. search needs) (λ c. search needs)
+    put-named-requires-2 (λ c. search needs)
+    put-requires (λ c. search needs)
     returns)

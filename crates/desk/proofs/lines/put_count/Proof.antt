@@ -19,10 +19,6 @@ returns c = search then
 pub put-count-spec : {M : Type 1} → statement M
 put-count-spec =
     tie.close
-    (tie.spec
-    put-requires
-    put-decimal-requires
-    (λ c. search needs)
-    put-requires-2
-    (λ c. search needs)
+    (tie.spec put-requires put-decimal-requires (λ c. search needs)
+    put-requires-2 (λ c. search needs)
     returns)

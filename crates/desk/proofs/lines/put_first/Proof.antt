@@ -20,9 +20,6 @@ returns c = search then
 pub put-first-spec : {M : Type 1} → statement M
 put-first-spec =
     tie.close
-    (tie.spec
-    put-closures-requires
-    (λ c. search needs)
-    put-count-requires
-    (λ c. search needs)
+    (tie.spec put-closures-requires (λ c. search needs)
+    put-count-requires (λ c. search needs)
     returns)

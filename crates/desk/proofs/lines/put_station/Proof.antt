@@ -19,13 +19,7 @@ returns c = search place-put
 pub put-station-spec : {M : Type 1} → statement M
 put-station-spec =
     tie.close
-    (tie.spec
-    put-decimal-requires
-    (λ c. search needs)
-    (λ c κs. search needs)
-    (λ c. search needs)
-    (λ c. search needs)
-    (λ c κs. search needs)
-    put-coordinates-requires
-    (λ c. search needs)
+    (tie.spec put-decimal-requires (λ c. search needs) (λ c κs. search needs) (λ c. search needs)
+    (λ c. search needs) (λ c κs. search needs)
+    put-coordinates-requires (λ c. search needs)
     returns)

@@ -30,13 +30,7 @@ returns c = search lines-last
 pub put-stations-spec : {M : Type 1} → statement M
 put-stations-spec =
     tie.close
-    (tie.spec
-    Inv-loop
-    μ-loop
-    loop-holds
-    put-station-requires
-    (λ c. search needs)
-    (λ c. search needs)
-    loop-again
-    (λ c. search needs)
+    (tie.spec Inv-loop μ-loop
+    loop-holds put-station-requires (λ c. search needs) (λ c. search needs)
+    loop-again (λ c. search needs)
     returns)

@@ -10,10 +10,6 @@ put-decimal-requires c κs = search decimal-fits
 pub number-spec : {M : Type 1} → statement M
 number-spec =
     tie.close
-    (tie.spec
-    (λ c. search needs)
-    put-decimal-requires
-    (λ c. search needs)
-    (λ c. search needs)
-    (λ c. search needs)
+    (tie.spec (λ c. search needs)
+    put-decimal-requires (λ c. search needs) (λ c. search needs) (λ c. search needs)
     (λ c. search needs))

@@ -10,10 +10,6 @@ put-digits-requires c κs = search digits-fit
 pub padded-spec : {M : Type 1} → statement M
 padded-spec =
     tie.close
-    (tie.spec
-    (λ c. search needs)
-    put-digits-requires
-    (λ c. search needs)
-    (λ c. search needs)
-    (λ c. search needs)
+    (tie.spec (λ c. search needs)
+    put-digits-requires (λ c. search needs) (λ c. search needs) (λ c. search needs)
     (λ c. search needs))

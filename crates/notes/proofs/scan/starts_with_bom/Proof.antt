@@ -20,11 +20,7 @@ returns-4 c = search tested
 pub starts-with-bom-spec : {M : Type 1} → statement M
 starts-with-bom-spec =
     tie.close
-    (tie.spec
-    returns
-    (λ c. search needs)
-    returns-2
-    (λ c. search needs)
-    returns-3
-    (λ c. search needs)
+    (tie.spec returns (λ c. search needs)
+    returns-2 (λ c. search needs)
+    returns-3 (λ c. search needs)
     returns-4)

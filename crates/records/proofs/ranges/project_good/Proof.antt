@@ -21,10 +21,6 @@ returns-3 c = search project-above
 pub project-good-spec : {M : Type 1} → statement M
 project-good-spec =
     tie.close
-    (tie.spec
-    returns
-    (λ c κs. search needs)
-    (λ c κs. search needs)
-    returns-2
-    (λ c κs. search needs)
+    (tie.spec returns (λ c κs. search needs) (λ c κs. search needs)
+    returns-2 (λ c κs. search needs)
     returns-3)

@@ -27,11 +27,5 @@ returns-5 c = search (flag-no, ranges) depth 9
 pub doubled-area-spec : {M : Type 1} → statement M
 doubled-area-spec =
     tie.close
-    (tie.spec
-    returns
-    returns-2
-    returns-3
-    (λ c κs. search needs)
-    round-requires
-    returns-4
-    returns-5)
+    (tie.spec returns returns-2 returns-3 (λ c κs. search needs)
+    round-requires returns-4 returns-5)

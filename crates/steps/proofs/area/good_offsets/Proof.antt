@@ -38,13 +38,6 @@ returns-2 c = search small-end
 pub good-offsets-spec : {M : Type 1} → statement M
 good-offsets-spec =
     tie.close
-    (tie.spec
-    Inv-loop
-    μ-loop
-    loop-holds
-    near-requires
-    returns
-    (λ c. search needs)
-    loop-less
-    loop-again
-    returns-2)
+    (tie.spec Inv-loop μ-loop
+    loop-holds near-requires returns (λ c. search needs)
+    loop-less loop-again returns-2)

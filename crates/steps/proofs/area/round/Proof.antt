@@ -48,14 +48,5 @@ returns c = search round-last
 pub round-spec : {M : Type 1} → statement M
 round-spec =
     tie.close
-    (tie.spec
-    Inv-loop
-    μ-loop
-    loop-holds
-    next-requires
-    cross-requires
-    plus-requires
-    add-i
-    loop-less
-    loop-again
-    returns)
+    (tie.spec Inv-loop μ-loop
+    loop-holds next-requires cross-requires plus-requires add-i loop-less loop-again returns)

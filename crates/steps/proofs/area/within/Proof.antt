@@ -14,4 +14,5 @@ returns-3 : tie.Need-returns-3
 returns-3 c = search within-both
 
 pub within-spec : {M : Type 1} → statement M
-within-spec = tie.close (tie.spec (λ c κs. search needs) returns (λ c κs. search needs) returns-2 returns-3)
+within-spec =
+    tie.close (tie.spec (λ c κs. search needs) returns (λ c κs. search needs) returns-2 returns-3)

@@ -20,13 +20,7 @@ returns-4 c = search (balanced-above, ranges) depth 8
 pub balanced-spec : {M : Type 1} → statement M
 balanced-spec =
     tie.close
-    (tie.spec
-    returns
-    (λ c κs. search needs)
-    returns-2
-    (λ c κs. search needs)
-    (λ c. search needs)
-    returns-3
-    (λ c. search needs)
-    (λ c. search needs)
+    (tie.spec returns (λ c κs. search needs)
+    returns-2 (λ c κs. search needs) (λ c. search needs)
+    returns-3 (λ c. search needs) (λ c. search needs)
     returns-4)

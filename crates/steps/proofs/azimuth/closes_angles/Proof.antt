@@ -25,12 +25,6 @@ returns-5 c = search ranges depth 8
 pub closes-angles-spec : {M : Type 1} → statement M
 closes-angles-spec =
     tie.close
-    (tie.spec
-    (λ c κs. search needs)
-    returns
-    returns-2
-    returns-3
-    (λ c. search needs)
-    (λ c. search needs)
-    returns-4
-    returns-5)
+    (tie.spec (λ c κs. search needs)
+    returns returns-2 returns-3 (λ c. search needs) (λ c. search needs)
+    returns-4 returns-5)

@@ -16,10 +16,5 @@ returns-3 c = search ranges depth 8
 pub from-mark-spec : {M : Type 1} → statement M
 from-mark-spec =
     tie.close
-    (tie.spec
-    returns
-    returns-2
-    (λ c. search needs)
-    (λ c κs. search needs)
-    (λ c. search needs)
+    (tie.spec returns returns-2 (λ c. search needs) (λ c κs. search needs) (λ c. search needs)
     returns-3)

@@ -20,15 +20,7 @@ returns-4 c = search (far-side, ranges) depth 8
 pub misclosure-spec : {M : Type 1} → statement M
 misclosure-spec =
     tie.close
-    (tie.spec
-    returns
-    returns-2
-    (λ c. search needs)
-    (λ c. search needs)
-    (λ c. search needs)
+    (tie.spec returns returns-2 (λ c. search needs) (λ c. search needs) (λ c. search needs)
     (λ c κs. search needs)
-    returns-3
-    (λ c. search needs)
-    (λ c κs. search needs)
-    (λ c κs. search needs)
+    returns-3 (λ c. search needs) (λ c κs. search needs) (λ c κs. search needs)
     returns-4)

@@ -30,14 +30,6 @@ returns-6 c = search (closes-no, ranges) depth 9
 pub closes-spec : {M : Type 1} → statement M
 closes-spec =
     tie.close
-    (tie.spec
-    (λ c κs. search needs)
-    (λ c κs. search needs)
-    returns
-    returns-2
-    returns-3
-    returns-4
-    (λ c κs. search needs)
-    mul-if5
-    returns-5
-    returns-6)
+    (tie.spec (λ c κs. search needs) (λ c κs. search needs)
+    returns returns-2 returns-3 returns-4 (λ c κs. search needs)
+    mul-if5 returns-5 returns-6)

@@ -39,17 +39,7 @@ returns-6 c = (search largest-told, search (some-closure, ranges) depth 9)
 pub precision-spec : {M : Type 1} → statement M
 precision-spec =
     tie.close
-    (tie.spec
-    (λ c κs. search needs)
-    (λ c κs. search needs)
-    returns
-    returns-2
-    returns-3
-    returns-4
-    (λ c κs. search needs)
-    returns-5
-    mul-whole-root
-    mul-whole-root-2
-    (λ c. search needs)
-    whole-root-requires
-    returns-6)
+    (tie.spec (λ c κs. search needs) (λ c κs. search needs)
+    returns returns-2 returns-3 returns-4 (λ c κs. search needs)
+    returns-5 mul-whole-root mul-whole-root-2 (λ c. search needs)
+    whole-root-requires returns-6)

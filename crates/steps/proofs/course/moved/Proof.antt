@@ -24,13 +24,6 @@ returns-3 c = search move-told
 pub moved-spec : {M : Type 1} → statement M
 moved-spec =
     tie.close
-    (tie.spec
-    returns
-    (λ c. search needs)
-    (λ c. search needs)
-    (λ c κs. search needs)
-    cast-move-by
-    (λ c κs. search needs)
-    move-by-requires
-    returns-2
-    returns-3)
+    (tie.spec returns (λ c. search needs) (λ c. search needs) (λ c κs. search needs)
+    cast-move-by (λ c κs. search needs)
+    move-by-requires returns-2 returns-3)

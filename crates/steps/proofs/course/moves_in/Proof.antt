@@ -24,12 +24,5 @@ returns-3 c = (search along-told, search along-told)
 pub moves-in-spec : {M : Type 1} → statement M
 moves-in-spec =
     tie.close
-    (tie.spec
-    returns
-    (λ c κs. search needs)
-    (λ c. search needs)
-    (λ c. search needs)
-    move-by-requires
-    move-by-requires-2
-    returns-2
-    returns-3)
+    (tie.spec returns (λ c κs. search needs) (λ c. search needs) (λ c. search needs)
+    move-by-requires move-by-requires-2 returns-2 returns-3)

@@ -20,14 +20,7 @@ returns-4 c = search (sea-above, above-good, ranges) depth 8
 pub sea-level-spec : {M : Type 1} → statement M
 sea-level-spec =
     tie.close
-    (tie.spec
-    (λ c κs. search needs)
-    (λ c κs. search needs)
-    returns
-    (λ c. search needs)
-    (λ c κs. search needs)
-    returns-2
-    returns-3
-    (λ c. search needs)
-    (λ c κs. search needs)
+    (tie.spec (λ c κs. search needs) (λ c κs. search needs)
+    returns (λ c. search needs) (λ c κs. search needs)
+    returns-2 returns-3 (λ c. search needs) (λ c κs. search needs)
     returns-4)

@@ -31,15 +31,6 @@ returns c = (search digit-found, search needs)
 pub digit-spec : {M : Type 1} → statement M
 digit-spec =
     tie.close
-    (tie.spec
-    Inv-loop
-    μ-loop
-    (λ c κs. search needs)
+    (tie.spec Inv-loop μ-loop (λ c κs. search needs) (λ c. search needs) (λ c. search needs)
     (λ c. search needs)
-    (λ c. search needs)
-    (λ c. search needs)
-    mul-loop
-    sub-d
-    loop-less
-    loop-again
-    returns)
+    mul-loop sub-d loop-less loop-again returns)

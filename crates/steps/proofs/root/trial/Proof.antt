@@ -11,9 +11,5 @@ returns c = search trial-divisor
 pub trial-spec : {M : Type 1} → statement M
 trial-spec =
     tie.close
-    (tie.spec
-    (λ c. search needs)
-    (λ c. search needs)
-    (λ c. search needs)
-    returns
-    (λ c. search needs))
+    (tie.spec (λ c. search needs) (λ c. search needs) (λ c. search needs)
+    returns (λ c. search needs))

@@ -27,14 +27,6 @@ returns c = search brought-all
 pub worked-spec : {M : Type 1} → statement M
 worked-spec =
     tie.close
-    (tie.spec
-    Inv-loop
-    μ-loop
-    (λ c κs. search needs)
-    loop-holds
-    with-pair-requires
-    (λ c. search needs)
-    (λ c. search needs)
-    (λ c. search needs)
-    loop-again
-    returns)
+    (tie.spec Inv-loop μ-loop (λ c κs. search needs)
+    loop-holds with-pair-requires (λ c. search needs) (λ c. search needs) (λ c. search needs)
+    loop-again returns)

@@ -22,13 +22,7 @@ returns-5 c = search ranges depth 9
 pub angle-share-spec : {M : Type 1} → statement M
 angle-share-spec =
     tie.close
-    (tie.spec
-    (λ c κs. search needs)
-    returns
-    returns-2
-    returns-3
-    (λ c. search needs)
-    returns-4
-    (λ c. search needs)
-    (λ c κs. search needs)
+    (tie.spec (λ c κs. search needs)
+    returns returns-2 returns-3 (λ c. search needs)
+    returns-4 (λ c. search needs) (λ c κs. search needs)
     returns-5)

@@ -22,11 +22,6 @@ returns-5 c = search ranges depth 9
 pub share-spec : {M : Type 1} → statement M
 share-spec =
     tie.close
-    (tie.spec
-    (λ c κs. search needs)
-    returns
-    returns-2
-    returns-3
-    returns-4
-    (λ c κs. search needs)
+    (tie.spec (λ c κs. search needs)
+    returns returns-2 returns-3 returns-4 (λ c κs. search needs)
     returns-5)

@@ -32,12 +32,6 @@ returns-2 c = search share-above
 pub share-of-spec : {M : Type 1} → statement M
 share-of-spec =
     tie.close
-    (tie.spec
-    (λ c κs. search needs)
-    mul-half-up
-    half-up-requires
-    of-size-requires
-    (λ c κs. search needs)
-    opposite-requires
-    returns
-    returns-2)
+    (tie.spec (λ c κs. search needs)
+    mul-half-up half-up-requires of-size-requires (λ c κs. search needs)
+    opposite-requires returns returns-2)

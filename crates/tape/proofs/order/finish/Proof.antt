@@ -23,5 +23,4 @@ returns-3 c = search all-read
 
 pub finish-spec : {M : Type 1} → statement M
 finish-spec =
-    tie.close
-    (tie.spec (λ c κs. search needs) returns past-record-requires returns-2 returns-3)
+    tie.close (tie.spec (λ c κs. search needs) returns past-record-requires returns-2 returns-3)

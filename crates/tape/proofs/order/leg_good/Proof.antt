@@ -10,10 +10,6 @@ returns c = search leg-there
 pub leg-good-spec : {M : Type 1} → statement M
 leg-good-spec =
     tie.close
-    (tie.spec
-    (λ c. search needs)
-    (λ c κs. search (leg-room, needs))
-    (λ c. search needs)
-    (λ c κs. search (leg-room, needs))
-    (λ c κs. search needs)
+    (tie.spec (λ c. search needs) (λ c κs. search (leg-room, needs)) (λ c. search needs)
+    (λ c κs. search (leg-room, needs)) (λ c κs. search needs)
     returns)

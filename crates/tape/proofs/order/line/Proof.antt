@@ -38,14 +38,6 @@ returns-2 c = search line-over
 pub line-spec : {M : Type 1} → statement M
 line-spec =
     tie.close
-    (tie.spec
-    Inv-loop
-    μ-loop
-    loop-holds
-    (λ c κs. search needs)
-    leg-requires
-    returns
-    past-leg-requires
-    loop-less
-    loop-again
-    returns-2)
+    (tie.spec Inv-loop μ-loop
+    loop-holds (λ c κs. search needs)
+    leg-requires returns past-leg-requires loop-less loop-again returns-2)

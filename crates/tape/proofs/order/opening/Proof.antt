@@ -36,13 +36,6 @@ returns-4 c = search start-read
 pub opening-spec : {M : Type 1} → statement M
 opening-spec =
     tie.close
-    (tie.spec
-    (λ c κs. search needs)
-    returns
-    project-requires
-    returns-2
-    past-record-requires
-    (λ c κs. search past-phase)
-    returns-3
-    past-record-requires-2
-    returns-4)
+    (tie.spec (λ c κs. search needs)
+    returns project-requires returns-2 past-record-requires (λ c κs. search past-phase)
+    returns-3 past-record-requires-2 returns-4)

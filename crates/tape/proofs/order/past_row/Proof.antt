@@ -12,10 +12,6 @@ pub past-row-spec : {M : Type 1} → statement M
 unfolding bodyOf kindFields table
 past-row-spec =
     tie.close
-    (tie.spec
-    (λ c. search needs)
-    (λ c κs. search needs)
-    (λ c. search needs)
-    (λ c. search needs)
+    (tie.spec (λ c. search needs) (λ c κs. search needs) (λ c. search needs) (λ c. search needs)
     (λ c. search needs)
     returns)

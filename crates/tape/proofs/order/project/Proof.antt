@@ -37,18 +37,8 @@ returns-6 c = search project-bad
 pub project-spec : {M : Type 1} → statement M
 project-spec =
     tie.close
-    (tie.spec
-    (λ c κs. search needs)
-    returns
-    sub-if2
-    returns-2
-    (λ c. search needs)
-    (λ c κs. search needs)
-    (λ c. search needs)
-    (λ c κs. search needs)
-    (λ c κs. search needs)
-    returns-3
-    (λ c. search needs)
-    returns-4
-    returns-5
-    returns-6)
+    (tie.spec (λ c κs. search needs)
+    returns sub-if2 returns-2 (λ c. search needs) (λ c κs. search needs) (λ c. search needs)
+    (λ c κs. search needs) (λ c κs. search needs)
+    returns-3 (λ c. search needs)
+    returns-4 returns-5 returns-6)

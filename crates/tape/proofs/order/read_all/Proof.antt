@@ -25,4 +25,5 @@ returns-3 c = search line-read
 pub read-all-spec : {M : Type 1} → statement M
 read-all-spec =
     tie.close
-    (tie.spec (λ c κs. search needs) returns line-requires returns-2 finish-requires returns-3)
+    (tie.spec (λ c κs. search needs)
+    returns line-requires returns-2 finish-requires returns-3)

@@ -26,13 +26,6 @@ pub row-spec : {M : Type 1} → statement M
 unfolding bodyOf kindFields table
 row-spec =
     tie.close
-    (tie.spec
-    (λ c. search needs)
+    (tie.spec (λ c. search needs) (λ c κs. search needs) (λ c. search needs) (λ c κs. search needs)
     (λ c κs. search needs)
-    (λ c. search needs)
-    (λ c κs. search needs)
-    (λ c κs. search needs)
-    returns
-    returns-2
-    returns-3
-    returns-4)
+    returns returns-2 returns-3 returns-4)

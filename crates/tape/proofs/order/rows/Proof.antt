@@ -41,17 +41,7 @@ returns-2 c = search rows-over
 pub rows-spec : {M : Type 1} → statement M
 rows-spec =
     tie.close
-    (tie.spec
-    Inv-loop
-    μ-loop
-    (λ c κs. search needs)
-    (λ c κs. search needs)
-    loop-holds
-    (λ c κs. search needs)
-    row-requires
-    returns
-    past-row-requires
-    loop-less
-    loop-again
-    (λ c κs. search needs)
+    (tie.spec Inv-loop μ-loop (λ c κs. search needs) (λ c κs. search needs)
+    loop-holds (λ c κs. search needs)
+    row-requires returns past-row-requires loop-less loop-again (λ c κs. search needs)
     returns-2)

@@ -14,18 +14,13 @@ returns c = search control-is
 pub control-spec : {M : Type 1} → statement M
 control-spec =
     tie.close
-    (tie.spec
-    (λ c. search needs) (λ c. search needs) (λ c. search needs) (λ c. search needs)
-    (λ c. search ends)
-    (λ c. search needs) (λ c κs. omega (arith, long))
+    (tie.spec (λ c. search needs) (λ c. search needs) (λ c. search needs) (λ c. search needs)
+    (λ c. search ends) (λ c. search needs) (λ c κs. omega (arith, long))
     (λ c. omega (arith, row-high)) (λ c. search row-low) (λ c. search needs) (λ c. search needs)
-    (λ c. search needs)
-    (λ c. search needs) (λ c κs. omega (arith, long))
-    (λ c. search needs) (λ c κs. omega (arith, long))
-    (λ c. search needs) (λ c κs. omega (arith, long))
-    (λ c. search needs) (λ c κs. omega (arith, long))
-    (λ c. search needs) (λ c κs. omega (arith, long))
-    (λ c. search needs) (λ c κs. omega (arith, ends))
-    (λ c. search needs) (λ c κs. omega (arith, ends))
-    (λ c. search needs) (λ c κs. omega (arith, ends))
+    (λ c. search needs) (λ c. search needs) (λ c κs. omega (arith, long)) (λ c. search needs)
+    (λ c κs. omega (arith, long)) (λ c. search needs) (λ c κs. omega (arith, long))
+    (λ c. search needs) (λ c κs. omega (arith, long)) (λ c. search needs)
+    (λ c κs. omega (arith, long)) (λ c. search needs) (λ c κs. omega (arith, ends))
+    (λ c. search needs) (λ c κs. omega (arith, ends)) (λ c. search needs)
+    (λ c κs. omega (arith, ends))
     returns)

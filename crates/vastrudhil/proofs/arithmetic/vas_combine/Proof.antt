@@ -5,4 +5,5 @@ use Rattle.vastrudhil.proofs.arithmetic.vas_combine.Statement.{statemen
 use Rattle.vastrudhil.proofs.arithmetic.vas_combine.Tie as tie
 
 pub vas-combine-spec : {M : Type 1} → statement M
-vas-combine-spec = tie.close (tie.spec (λ c κs. search needs) (λ c κs. search needs) (λ c. search count-as))
+vas-combine-spec =
+    tie.close (tie.spec (λ c κs. search needs) (λ c κs. search needs) (λ c. search count-as))

@@ -5,4 +5,5 @@ use Rattle.vastrudhil.proofs.arithmetic.vas_cosine_in.Statement.{statem
 use Rattle.vastrudhil.proofs.arithmetic.vas_cosine_in.Tie as tie
 
 pub vas-cosine-in-spec : {M : Type 1} → statement M
-vas-cosine-in-spec = tie.close (tie.spec (λ c κs. search needs) (λ c κs. search needs) (λ c. search amount-as))
+vas-cosine-in-spec =
+    tie.close (tie.spec (λ c κs. search needs) (λ c κs. search needs) (λ c. search amount-as))

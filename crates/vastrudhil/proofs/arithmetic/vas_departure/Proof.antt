@@ -5,4 +5,5 @@ use Rattle.vastrudhil.proofs.arithmetic.vas_departure.Statement.{statem
 use Rattle.vastrudhil.proofs.arithmetic.vas_departure.Tie as tie
 
 pub vas-departure-spec : {M : Type 1} → statement M
-vas-departure-spec = tie.close (tie.spec (λ c κs. search needs) (λ c κs. search needs) (λ c. search amount-as))
+vas-departure-spec =
+    tie.close (tie.spec (λ c κs. search needs) (λ c κs. search needs) (λ c. search amount-as))

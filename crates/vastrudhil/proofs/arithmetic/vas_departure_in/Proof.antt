@@ -5,4 +5,5 @@ use Rattle.vastrudhil.proofs.arithmetic.vas_departure_in.Statement.{sta
 use Rattle.vastrudhil.proofs.arithmetic.vas_departure_in.Tie as tie
 
 pub vas-departure-in-spec : {M : Type 1} → statement M
-vas-departure-in-spec = tie.close (tie.spec (λ c κs. search needs) (λ c κs. search needs) (λ c. search amount-as))
+vas-departure-in-spec =
+    tie.close (tie.spec (λ c κs. search needs) (λ c κs. search needs) (λ c. search amount-as))

@@ -5,4 +5,5 @@ use Rattle.vastrudhil.proofs.arithmetic.vas_doubled_area.Statement.{sta
 use Rattle.vastrudhil.proofs.arithmetic.vas_doubled_area.Tie as tie
 
 pub vas-doubled-area-spec : {M : Type 1} → statement M
-vas-doubled-area-spec = tie.close (tie.spec (λ c κs. search needs) (λ c κs. search needs) (λ c. search amount-as))
+vas-doubled-area-spec =
+    tie.close (tie.spec (λ c κs. search needs) (λ c κs. search needs) (λ c. search amount-as))

@@ -5,4 +5,5 @@ use Rattle.vastrudhil.proofs.arithmetic.vas_from_mark.Statement.{statem
 use Rattle.vastrudhil.proofs.arithmetic.vas_from_mark.Tie as tie
 
 pub vas-from-mark-spec : {M : Type 1} → statement M
-vas-from-mark-spec = tie.close (tie.spec (λ c κs. search needs) (λ c κs. search needs) (λ c. search count-as))
+vas-from-mark-spec =
+    tie.close (tie.spec (λ c κs. search needs) (λ c κs. search needs) (λ c. search count-as))

@@ -5,4 +5,5 @@ use Rattle.vastrudhil.proofs.arithmetic.vas_latitude.Statement.{stateme
 use Rattle.vastrudhil.proofs.arithmetic.vas_latitude.Tie as tie
 
 pub vas-latitude-spec : {M : Type 1} → statement M
-vas-latitude-spec = tie.close (tie.spec (λ c κs. search needs) (λ c κs. search needs) (λ c. search amount-as))
+vas-latitude-spec =
+    tie.close (tie.spec (λ c κs. search needs) (λ c κs. search needs) (λ c. search amount-as))

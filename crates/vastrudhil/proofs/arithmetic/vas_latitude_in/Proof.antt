@@ -5,4 +5,5 @@ use Rattle.vastrudhil.proofs.arithmetic.vas_latitude_in.Statement.{stat
 use Rattle.vastrudhil.proofs.arithmetic.vas_latitude_in.Tie as tie
 
 pub vas-latitude-in-spec : {M : Type 1} → statement M
-vas-latitude-in-spec = tie.close (tie.spec (λ c κs. search needs) (λ c κs. search needs) (λ c. search amount-as))
+vas-latitude-in-spec =
+    tie.close (tie.spec (λ c κs. search needs) (λ c κs. search needs) (λ c. search amount-as))

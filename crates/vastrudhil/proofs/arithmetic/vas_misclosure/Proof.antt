@@ -5,4 +5,5 @@ use Rattle.vastrudhil.proofs.arithmetic.vas_misclosure.Statement.{state
 use Rattle.vastrudhil.proofs.arithmetic.vas_misclosure.Tie as tie
 
 pub vas-misclosure-spec : {M : Type 1} → statement M
-vas-misclosure-spec = tie.close (tie.spec (λ c κs. search needs) (λ c κs. search needs) (λ c. search amount-as))
+vas-misclosure-spec =
+    tie.close (tie.spec (λ c κs. search needs) (λ c κs. search needs) (λ c. search amount-as))

@@ -5,4 +5,5 @@ use Rattle.vastrudhil.proofs.arithmetic.vas_onward.Statement.{statement
 use Rattle.vastrudhil.proofs.arithmetic.vas_onward.Tie as tie
 
 pub vas-onward-spec : {M : Type 1} → statement M
-vas-onward-spec = tie.close (tie.spec (λ c κs. search needs) (λ c κs. search needs) (λ c. search count-as))
+vas-onward-spec =
+    tie.close (tie.spec (λ c κs. search needs) (λ c κs. search needs) (λ c. search count-as))

@@ -5,4 +5,5 @@ use Rattle.vastrudhil.proofs.arithmetic.vas_sine_in.Statement.{statemen
 use Rattle.vastrudhil.proofs.arithmetic.vas_sine_in.Tie as tie
 
 pub vas-sine-in-spec : {M : Type 1} → statement M
-vas-sine-in-spec = tie.close (tie.spec (λ c κs. search needs) (λ c κs. search needs) (λ c. search amount-as))
+vas-sine-in-spec =
+    tie.close (tie.spec (λ c κs. search needs) (λ c κs. search needs) (λ c. search amount-as))

@@ -6,4 +6,7 @@ use Rattle.vastrudhil.proofs.tapes.vas_traverse.Statement.{statement}
 use Rattle.vastrudhil.proofs.tapes.vas_traverse.Tie as tie
 
 pub vas-traverse-spec : {M : Type 1} → statement M
-vas-traverse-spec = tie.close (tie.spec (λ c κs. search needs) (λ c κs. search own-fits) (λ c. search needs) (λ c. (search traverse-as, search needs)))
+vas-traverse-spec =
+    tie.close
+    (tie.spec (λ c κs. search needs) (λ c κs. search own-fits) (λ c. search needs)
+    (λ c. (search traverse-as, search needs)))

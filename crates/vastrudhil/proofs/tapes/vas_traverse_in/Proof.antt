@@ -6,4 +6,7 @@ use Rattle.vastrudhil.proofs.tapes.vas_traverse_in.Statement.{statement
 use Rattle.vastrudhil.proofs.tapes.vas_traverse_in.Tie as tie
 
 pub vas-traverse-in-spec : {M : Type 1} → statement M
-vas-traverse-in-spec = tie.close (tie.spec (λ c κs. search needs) (λ c κs. search lent-fits) (λ c. search needs) (λ c. (search traverse-as, search needs)))
+vas-traverse-in-spec =
+    tie.close
+    (tie.spec (λ c κs. search needs) (λ c κs. search lent-fits) (λ c. search needs)
+    (λ c. (search traverse-as, search needs)))

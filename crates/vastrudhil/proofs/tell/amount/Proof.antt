@@ -5,4 +5,7 @@ use Rattle.vastrudhil.proofs.tell.amount.Statement.{statement}
 use Rattle.vastrudhil.proofs.tell.amount.Tie as tie
 
 pub amount-spec : {M : Type 1} → statement M
-amount-spec = tie.close (tie.spec (λ c. search needs) (λ c κs. search needs) (λ c. search needs) (λ c. search amount-is) (λ c. search amount-out))
+amount-spec =
+    tie.close
+    (tie.spec (λ c. search needs) (λ c κs. search needs) (λ c. search needs)
+    (λ c. search amount-is) (λ c. search amount-out))

@@ -7,10 +7,5 @@ use Rattle.vastrudhil.proofs.tell.answer.Tie as tie
 pub answer-spec : {M : Type 1} → statement M
 answer-spec =
     tie.close
-    (tie.spec
-    (λ c κs. search needs)
-    (λ c κs. search needs)
-    (λ c. search needs)
-    (λ c. search needs)
-    (λ c. search tells-refused)
-    (λ c. search tells-adjusted))
+    (tie.spec (λ c κs. search needs) (λ c κs. search needs) (λ c. search needs) (λ c. search needs)
+    (λ c. search tells-refused) (λ c. search tells-adjusted))

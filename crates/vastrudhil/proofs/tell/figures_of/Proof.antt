@@ -12,11 +12,6 @@ returns c = search refused-figures
 pub figures-of-spec : {M : Type 1} → statement M
 figures-of-spec =
     tie.close
-    (tie.spec
-    (λ c. search needs)
-    (λ c. search needs)
-    (λ c κs. search legs-fit)
-    (λ c κs. search precision-fits)
-    (λ c κs. search needs)
-    returns
-    (λ c. search adjusted-figures))
+    (tie.spec (λ c. search needs) (λ c. search needs) (λ c κs. search legs-fit)
+    (λ c κs. search precision-fits) (λ c κs. search needs)
+    returns (λ c. search adjusted-figures))

@@ -7,10 +7,5 @@ use Rattle.vastrudhil.proofs.tell.verdict.Tie as tie
 pub verdict-spec : {M : Type 1} → statement M
 verdict-spec =
     tie.close
-    (tie.spec
-    (λ c. search needs)
-    (λ c. search needs)
-    (λ c. search needs)
-    (λ c. search verdict-passes)
-    (λ c. search verdict-fails)
-    (λ c. search verdict-out))
+    (tie.spec (λ c. search needs) (λ c. search needs) (λ c. search needs)
+    (λ c. search verdict-passes) (λ c. search verdict-fails) (λ c. search verdict-out))

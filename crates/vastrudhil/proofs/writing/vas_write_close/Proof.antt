@@ -5,4 +5,7 @@ use Rattle.vastrudhil.proofs.writing.vas_write_close.Statement.{stateme
 use Rattle.vastrudhil.proofs.writing.vas_write_close.Tie as tie
 
 pub vas-write-close-spec : {M : Type 1} → statement M
-vas-write-close-spec = tie.close (tie.spec (λ c κs. search needs) (λ c κs. search needs) (λ c. search needs) (λ c. search writes-as))
+vas-write-close-spec =
+    tie.close
+    (tie.spec (λ c κs. search needs) (λ c κs. search needs) (λ c. search needs)
+    (λ c. search writes-as))

@@ -5,4 +5,7 @@ use Rattle.vastrudhil.proofs.writing.vas_write_leg.Statement.{statement
 use Rattle.vastrudhil.proofs.writing.vas_write_leg.Tie as tie
 
 pub vas-write-leg-spec : {M : Type 1} → statement M
-vas-write-leg-spec = tie.close (tie.spec (λ c κs. search needs) (λ c κs. search needs) (λ c. search needs) (λ c. search writes-as))
+vas-write-leg-spec =
+    tie.close
+    (tie.spec (λ c κs. search needs) (λ c κs. search needs) (λ c. search needs)
+    (λ c. search writes-as))

@@ -11,4 +11,5 @@ returns c =
     project-as (toZ-ofZ (w .before .before .before .fits .elevation)) (writes-as _ _ _ _ _ _ _ _ (w .write .ensures) (c .written .ensures))
 
 pub vas-write-project-spec : {M : Type 1} → statement M
-vas-write-project-spec = tie.close (tie.spec (λ c κs. search needs) (λ c κs. search needs) (λ c. search needs) returns)
+vas-write-project-spec =
+    tie.close (tie.spec (λ c κs. search needs) (λ c κs. search needs) (λ c. search needs) returns)

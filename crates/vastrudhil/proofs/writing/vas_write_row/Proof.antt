@@ -5,4 +5,7 @@ use Rattle.vastrudhil.proofs.writing.vas_write_row.Statement.{statement
 use Rattle.vastrudhil.proofs.writing.vas_write_row.Tie as tie
 
 pub vas-write-row-spec : {M : Type 1} → statement M
-vas-write-row-spec = tie.close (tie.spec (λ c κs. search needs) (λ c κs. search needs) (λ c. search needs) (λ c. search writes-as))
+vas-write-row-spec =
+    tie.close
+    (tie.spec (λ c κs. search needs) (λ c κs. search needs) (λ c. search needs)
+    (λ c. search writes-as))

@@ -5,4 +5,7 @@ use Rattle.vastrudhil.proofs.writing.vas_write_start.Statement.{stateme
 use Rattle.vastrudhil.proofs.writing.vas_write_start.Tie as tie
 
 pub vas-write-start-spec : {M : Type 1} → statement M
-vas-write-start-spec = tie.close (tie.spec (λ c κs. search needs) (λ c κs. search needs) (λ c. search needs) (λ c. search writes-as))
+vas-write-start-spec =
+    tie.close
+    (tie.spec (λ c κs. search needs) (λ c κs. search needs) (λ c. search needs)
+    (λ c. search writes-as))

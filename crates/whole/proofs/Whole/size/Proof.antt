@@ -26,11 +26,5 @@ returns c = below-size (c .before .before .before .before .before .args .self .v
 pub size-spec : {M : Type 1} → statement M
 size-spec =
     tie.close
-    (tie.spec
-    add-result
-    sub-result
-    cast-result
-    add-result-2
-    cast-result-2
-    returns
+    (tie.spec add-result sub-result cast-result add-result-2 cast-result-2 returns
     (λ c. search needs))

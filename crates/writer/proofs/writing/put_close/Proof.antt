@@ -38,11 +38,7 @@ returns c =
 pub put-close-spec : {M : Type 1} → statement M
 put-close-spec =
     tie.close
-    (tie.spec
-    (λ c κs. search needs)
-    put-four-requires
-    put-four-requires-2
-    put-four-requires-3
-    put-four-requires-4
+    (tie.spec (λ c κs. search needs)
+    put-four-requires put-four-requires-2 put-four-requires-3 put-four-requires-4
     (λ c. search needs)
     returns)

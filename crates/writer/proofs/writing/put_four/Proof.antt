@@ -22,17 +22,8 @@ returns c = let a = c .args in four-stored (now (a .out)) (a .at) (a .n)
 pub put-four-spec : {M : Type 1} → statement M
 put-four-spec =
     tie.close
-    (tie.spec
-    (λ c. search needs)
-    (λ c. search needs)
-    (λ c. search needs)
-    (λ c. search needs)
-    slice-write-out-2
-    (λ c. search needs)
-    (λ c. search needs)
-    slice-write-out-3
-    (λ c. search needs)
-    (λ c. search needs)
-    slice-write-out-4
-    (λ c. search needs)
+    (tie.spec (λ c. search needs) (λ c. search needs) (λ c. search needs) (λ c. search needs)
+    slice-write-out-2 (λ c. search needs) (λ c. search needs)
+    slice-write-out-3 (λ c. search needs) (λ c. search needs)
+    slice-write-out-4 (λ c. search needs)
     returns)

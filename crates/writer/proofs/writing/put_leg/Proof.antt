@@ -27,9 +27,6 @@ returns c =
 pub put-leg-spec : {M : Type 1} → statement M
 put-leg-spec =
     tie.close
-    (tie.spec
-    (λ c κs. search needs)
-    put-four-requires
-    put-four-requires-2
-    (λ c. search needs)
+    (tie.spec (λ c κs. search needs)
+    put-four-requires put-four-requires-2 (λ c. search needs)
     returns)

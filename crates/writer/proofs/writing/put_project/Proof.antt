@@ -28,10 +28,6 @@ returns c =
 pub put-project-spec : {M : Type 1} → statement M
 put-project-spec =
     tie.close
-    (tie.spec
-    (λ c κs. search needs)
-    (λ c κs. search needs)
-    put-two-requires
-    put-two-requires-2
-    (λ c. search needs)
+    (tie.spec (λ c κs. search needs) (λ c κs. search needs)
+    put-two-requires put-two-requires-2 (λ c. search needs)
     returns)

@@ -27,9 +27,6 @@ returns c =
 pub put-row-spec : {M : Type 1} → statement M
 put-row-spec =
     tie.close
-    (tie.spec
-    (λ c κs. search needs)
-    put-two-requires
-    put-four-requires
-    (λ c. search needs)
+    (tie.spec (λ c κs. search needs)
+    put-two-requires put-four-requires (λ c. search needs)
     returns)

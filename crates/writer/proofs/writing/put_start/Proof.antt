@@ -32,10 +32,6 @@ returns c =
 pub put-start-spec : {M : Type 1} → statement M
 put-start-spec =
     tie.close
-    (tie.spec
-    (λ c κs. search needs)
-    put-four-requires
-    put-four-requires-2
-    put-four-requires-3
-    (λ c. search needs)
+    (tie.spec (λ c κs. search needs)
+    put-four-requires put-four-requires-2 put-four-requires-3 (λ c. search needs)
     returns)

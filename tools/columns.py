@@ -1,0 +1,28 @@
+#!/usr/bin/env python3
+"""Checks that no line of the code and of the definitions, crates/*/src/ and crates/*/specs/, has
+more than 100 columns. The pages are checked by tools/pages.py. Run from anywhere: tools/columns.py;
+it prints the lines that are wider, and ends with 1 if there is any."""
+
+import sys
+from pathlib import Path
+
+ROOT = Path(__file__).resolve().parent.parent
+COLUMNS = 100
+KEPT = ("crates/*/src/**/*.rt", "crates/*/specs/**/*.antt")
+
+
+def wide(path: Path) -> list[str]:
+    """The lines of a file that are too wide, each with its place and its width."""
+    lines = path.read_text(encoding="utf-8").splitlines()
+    name = path.relative_to(ROOT).as_posix()
+    return [f"{name}:{n}: {len(line)}" for n, line in enumerate(lines, 1) if COLUMNS < len(line)]
+
+
+def main() -> None:
+    found = [line for kept in KEPT for path in sorted(ROOT.glob(kept)) for line in wide(path)]
+    if found:
+        sys.exit("\n".join([f"lines of more than {COLUMNS} columns:", *found]))
+
+
+if __name__ == "__main__":
+    main()
