@@ -1,4 +1,4 @@
--- How far the compass rule spreads what the legs have lost, on any line. At a station with the part S_k of the distance S behind it, the errors before count
+-- How far the compass rule spreads what the legs have lost, on any line. At a station with the part S_k of the distance S after it, the errors before count
 -- (S - S_k) / S and those after S_k / S, a mean of two sums of which the longer bounds both; the share's own rounding adds half a unit.
 use Prim.Native.Nat.{ℕ, zero, suc, _+_, _-_, _*_, _≤_, _<_}
 use native.Mathlib.Omega.{arith}

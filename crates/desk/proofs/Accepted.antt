@@ -1,6 +1,6 @@
 -- An answer whose number is 0 is an acceptance: there was room, the tape reads, and both tests were passed, since every refusal has a number above 0.
 -- So what is told and what the words hold then follow from the number alone: small numbers, every station, the fixed points at both ends, and nothing
--- changed behind.
+-- changed after.
 use Prim.Native.Nat.{ℕ, _+_, _*_, _^_, _≤_, _<_}
 use native.Mathlib.Omega.{arith}
 use mathlib.Core.Path.{_≡_, refl}

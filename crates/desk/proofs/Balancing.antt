@@ -27,7 +27,7 @@ use Rattle.desk.specs.Traverse.{azimuthOf}
 use Rattle.desk.specs.Turns.{balancedAt}
 use Rattle.desk.specs.Inside.{Ready, Sound, AllTurned, balancedBy, balancedIn}
 use Rattle.tape.specs.Fields.{Fields}
-use Rattle.whole.proofs.Filling.{filled-length, filled-at, filled-behind, filled-on}
+use Rattle.whole.proofs.Filling.{filled-length, filled-at, filled-after, filled-on}
 use Rattle.desk.proofs.Scaling.{combined-range}
 use Rattle.desk.proofs.Turning.{balanced-most, balanced-at-turned, filled-balanced-at}
 
@@ -88,7 +88,7 @@ module _ (w : ℤ) (legs ahead angles k : ℕ) (l m : List ℕ) (h : k < legs) (
   balancing-room = rw e (omega (arith, filled-length (balancedBy w ahead angles l) l k, t .room))
 
   unbalanced-yet : getD m k 0 ≡ getD l k 0
-  unbalanced-yet = rw e (filled-behind (balancedBy w ahead angles l) l k k (omega arith))
+  unbalanced-yet = rw e (filled-after (balancedBy w ahead angles l) l k k (omega arith))
 
   pub balancing-turned : getD m k 0 < 12960000
   balancing-turned = rw unbalanced-yet (t .each k h)

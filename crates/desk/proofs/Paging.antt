@@ -1,5 +1,5 @@
 -- The sheet step: an answer of number 0 is the adjusted traverse whose text is put line by line, and any other is handed on. There is room for the text,
--- since it never exceeds 4,096 bytes, and what is put from the first byte on leaves all behind it as it was.
+-- since it never exceeds 4,096 bytes, and what is put from the first byte on leaves all after it as it was.
 use Prim.Native.Nat.{ℕ, _≤_, _<_}
 use native.Mathlib.Omega.{arith}
 use mathlib.Core.Path.{_≡_, sym, _∙_, ap}

@@ -1,4 +1,4 @@
--- A station stored in a list of words, northing at word 2n and easting behind it: its own words are these two, and no other word has changed.
+-- A station stored in a list of words, northing at word 2n and easting after it: its own words are these two, and no other word has changed.
 use Prim.Native.Nat.{ℕ, _+_, _*_, _<_}
 use native.Mathlib.Omega.{arith}
 use mathlib.Core.Path.{_≡_, _∙_}
@@ -27,6 +27,6 @@ module _ (n k : ℕ) (other : k ≡ n → ⊥) where
   before north e = other (omega arith)
   before east e = omega arith
 
-  pub behind : (a : Axis) → wordIndex a k ≡ 2 * n + 1 → ⊥
-  behind north e = omega arith
-  behind east e = other (omega arith)
+  pub later : (a : Axis) → wordIndex a k ≡ 2 * n + 1 → ⊥
+  later north e = omega arith
+  later east e = other (omega arith)

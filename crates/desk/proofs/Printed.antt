@@ -50,7 +50,7 @@ pub printed-told : traversed (tapeOf records) 130 ≡ answer
 unfolding nearest sumTo exactSine exactQuarter bySeries series weight unity straight pi factorial around turned folded entry between quarterBy sineBy cross nextStation doubledTo turn misclosure closesAngles balanced closes root precision move sineAlong seaLevel combine grid share num bytes meant written table kindFields bodyOf numbersOf goodOf bytesOf mayCome roomOf rowNext projectNext afterOf takeOf judge stepOf walk readingOf recordsFrom tapeOf pick placeOf angleOf distanceOf isRow scaleOf picked run preliminary adjusted withStations offsetsTo areaOf carried misclosureOf balancedAt filled balancedTraverse checkedAngles firstOf firstFor closesOn adjustedTraverse traversedBy
 printed-told = refl
 
--- the five stations, and behind them the words as they were lent
+-- the five stations, and after them the words as they were lent
 abbrev pub stations : List ℤ
 stations = pos 5000000 ∷ pos 200000000 ∷ pos 5100000 ∷ pos 200000000 ∷ pos 5100001 ∷ pos 200100001 ∷ pos 5000000 ∷ pos 200100000 ∷ pos 5000000 ∷ pos 200000000 ∷ []
 

@@ -29,7 +29,7 @@ use Rattle.desk.specs.Inside.{withLegs, LegSound, Sound, RoomForLeg, Sli
 use Rattle.desk.specs.Angles.{Balanced}
 use Rattle.desk.specs.declared.Frame.{Frame}
 use Rattle.desk.specs.declared.Sums.{Sums}
-use Rattle.desk.proofs.Pairs.{apart, own, before, behind}
+use Rattle.desk.proofs.Pairs.{apart, own, before, later}
 
 -- ---- the grid distance of a leg
 module _ (distance factor : ℕ) (near : distance ≤ 20000000) (most : factor ≤ 10020010) where
@@ -140,7 +140,7 @@ module _ (e : ℕ → ℤ) (b : Balanced) where
               λ axis j h.
               elim (ℕ-discrete j k) [
                 | yes i ↦ rw i (own-spot axis)
-                | no i ↦ rw f (apart l k x y (wordIndex axis j) (before k j i axis) (behind k j i axis) ∙ spot axis j (omega arith))
+                | no i ↦ rw f (apart l k x y (wordIndex axis j) (before k j i axis) (later k j i axis) ∙ spot axis j (omega arith))
               ];
           run =
               λ j h.

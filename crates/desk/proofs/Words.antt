@@ -1,5 +1,5 @@
 -- The lent words of an accepted traverse: word 2k is the adjusted northing of station k and the next one its easting, whatever was stored before or
--- behind; so the first and the last station are the fixed points to the hundredth, and no later word has changed.
+-- after; so the first and the last station are the fixed points to the hundredth, and no later word has changed.
 use Prim.Native.Nat.{ℕ, zero, suc, _+_, _*_, _≤_, _<_}
 use native.Mathlib.Omega.{arith}
 use native.Mathlib.Decide.{ℕ-discrete}
@@ -12,12 +12,12 @@ use Rattle.desk.specs.Line.{adjusted}
 use Rattle.desk.specs.Traverse.{along, line, wordIndex, withStations}
 use Rattle.desk.specs.Inside.{Sound}
 use Rattle.desk.specs.Angles.{Balanced}
-use Rattle.desk.proofs.Pairs.{apart, own, before, behind}
+use Rattle.desk.proofs.Pairs.{apart, own, before, later}
 use Rattle.desk.proofs.Compass.{first-fixed, last-fixed}
 use Rattle.desk.proofs.Settling.{far-run, placed-length}
 
 module _ (e : ℕ → ℤ) (b : Balanced) (l : List ℤ) where
-  -- behind the stations nothing changes
+  -- after the stations nothing changes
   pub words-later : (n i : ℕ) → 2 * n ≤ i → getD (withStations e b n l) i (pos 0) ≡ getD l i (pos 0)
   unfolding withStations
   words-later zero i h = refl
@@ -30,7 +30,7 @@ module _ (e : ℕ → ℤ) (b : Balanced) (l : List ℤ) where
   word-at axis (suc n) k h r =
       elim (ℕ-discrete k n) [
         | yes i ↦ rw i (station axis)
-        | no i ↦ apart (withStations e b n l) n _ _ (wordIndex axis k) (before n k i axis) (behind n k i axis) ∙ word-at axis n k (omega arith) (omega arith)
+        | no i ↦ apart (withStations e b n l) n _ _ (wordIndex axis k) (before n k i axis) (later n k i axis) ∙ word-at axis n k (omega arith) (omega arith)
       ]
     where
       station : (a : Axis) → getD (withStations e b (suc n) l) (wordIndex a n) (pos 0) ≡ adjusted (line e a b) n

@@ -17,7 +17,7 @@ ghost use Prim.Native.Nat.{_+_, _*_, _<_, _≤_};
 ghost use lib.ListN.{length};
 
 // The byte `steps` after a place, and 0 where the tape has none.
-fn byte_behind(tape: &[u8], at: usize, steps: usize) -> u64
+fn byte_after(tape: &[u8], at: usize, steps: usize) -> u64
     ensures { λ r. ⌜ r < 256 ⌝ }
 {
     if at < tape.len() {
@@ -42,22 +42,19 @@ fn one_more(value: u64, byte: u64) -> u64
     value * 256 + byte
 }
 
-fn two_behind(tape: &[u8], at: usize, steps: usize) -> u64
+fn two_after(tape: &[u8], at: usize, steps: usize) -> u64
     requires { ⌜ steps < 100 ⌝ }
     ensures { λ r. ⌜ r < 65536 ⌝ }
 {
-    one_more(
-        byte_behind(tape, at, steps),
-        byte_behind(tape, at, steps + 1),
-    )
+    one_more(byte_after(tape, at, steps), byte_after(tape, at, steps + 1))
 }
 
-fn four_behind(tape: &[u8], at: usize, steps: usize) -> u64
+fn four_after(tape: &[u8], at: usize, steps: usize) -> u64
     requires { ⌜ steps < 100 ⌝ }
 {
-    let high = two_behind(tape, at, steps);
-    let third = one_more(high, byte_behind(tape, at, steps + 2));
-    one_more(third, byte_behind(tape, at, steps + 3))
+    let high = two_after(tape, at, steps);
+    let third = one_more(high, byte_after(tape, at, steps + 2));
+    one_more(third, byte_after(tape, at, steps + 3))
 }
 
 // A blank, and then degrees, minutes and seconds of an amount in tenths of a second.
@@ -71,10 +68,10 @@ fn circle(out: &mut [u8], place: usize, value: u64) -> usize {
         value / units::TENTHS_IN_MINUTE % units::WIDE_MINUTES_IN_DEGREE,
         2,
     );
-    let behind = put::bytes(out, minutes, b" ");
+    let after = put::bytes(out, minutes, b" ");
     let seconds = put::padded(
         out,
-        behind,
+        after,
         value % units::TENTHS_IN_MINUTE / units::TENTHS_IN_SECOND,
         2,
     );
@@ -109,19 +106,14 @@ fn elevation(out: &mut [u8], place: usize, value: u64) -> usize
 
 fn row_line(tape: &[u8], at: usize, out: &mut [u8], place: usize) -> usize {
     let word = put::bytes(out, place, b"row");
-    let minute = latitude(out, word, two_behind(tape, at, 1));
-    decimal(
-        out,
-        minute,
-        four_behind(tape, at, 3),
-        units::FACTOR_DECIMALS,
-    )
+    let minute = latitude(out, word, two_after(tape, at, 1));
+    decimal(out, minute, four_after(tape, at, 3), units::FACTOR_DECIMALS)
 }
 
 fn project_line(tape: &[u8], at: usize, out: &mut [u8], place: usize) -> usize {
     let word = put::bytes(out, place, b"project");
-    let minute = latitude(out, word, two_behind(tape, at, 1));
-    elevation(out, minute, two_behind(tape, at, 3))
+    let minute = latitude(out, word, two_after(tape, at, 1));
+    elevation(out, minute, two_after(tape, at, 3))
 }
 
 // Northing, easting and azimuth to the mark, from the byte `steps` after the record's first on.
@@ -131,16 +123,16 @@ fn fixed_point(tape: &[u8], at: usize, steps: usize, out: &mut [u8], place: usiz
     let northing = decimal(
         out,
         place,
-        four_behind(tape, at, steps),
+        four_after(tape, at, steps),
         units::COORDINATE_DECIMALS,
     );
     let easting = decimal(
         out,
         northing,
-        four_behind(tape, at, steps + 4),
+        four_after(tape, at, steps + 4),
         units::COORDINATE_DECIMALS,
     );
-    circle(out, easting, four_behind(tape, at, steps + 8))
+    circle(out, easting, four_after(tape, at, steps + 8))
 }
 
 fn start_line(tape: &[u8], at: usize, out: &mut [u8], place: usize) -> usize {
@@ -150,18 +142,18 @@ fn start_line(tape: &[u8], at: usize, out: &mut [u8], place: usize) -> usize {
 
 fn leg_line(tape: &[u8], at: usize, out: &mut [u8], place: usize) -> usize {
     let word = put::bytes(out, place, b"leg");
-    let angle = circle(out, word, four_behind(tape, at, 1));
+    let angle = circle(out, word, four_after(tape, at, 1));
     decimal(
         out,
         angle,
-        four_behind(tape, at, 5),
+        four_after(tape, at, 5),
         units::DISTANCE_DECIMALS,
     )
 }
 
 fn close_line(tape: &[u8], at: usize, out: &mut [u8], place: usize) -> usize {
     let word = put::bytes(out, place, b"close");
-    let angle = circle(out, word, four_behind(tape, at, 1));
+    let angle = circle(out, word, four_after(tape, at, 1));
     fixed_point(tape, at, 5, out, angle)
 }
 

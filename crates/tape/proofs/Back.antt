@@ -157,7 +157,7 @@ unfolding walk recordsFrom
 past [] l = (λ st at. refl, refl)
 past (x ∷ p) l = past p l
 
--- a record whose numbers are in range, with anything behind it
+-- a record whose numbers are in range, with anything after it
 module _ (k : ℕ) (vs : List ℤ) (l : List ℕ) (good : goodOf k vs ≡ true) where
   pub length-body : length (spell (kindFields k) vs) ≡ bodyOf k
   unfolding bodyOf goodOf

@@ -1,4 +1,4 @@
--- An amount is put as its sign and the text behind it: the sign by the code's own test, and whole ones and decimals by the unit that the code divides by.
+-- An amount is put as its sign and the text after it: the sign by the code's own test, and whole ones and decimals by the unit that the code divides by.
 use Prim.Native.Nat.{ℕ, _/_, _^_, _<_}
 use native.Mathlib.Omega.{arith}
 use native.Mathlib.Nat.{one-le-pow}

@@ -1,4 +1,4 @@
--- Texts put one behind the other are their join put at the place of the first, and there is room for each where there is room for the join.
+-- Texts put one after the other are their join put at the place of the first, and there is room for each where there is room for the join.
 use Prim.Native.Nat.{ℕ, suc, _+_, _≤_, _<_}
 use native.Mathlib.Omega.{arith}
 use native.Mathlib.Nat.{zero-add}
@@ -20,7 +20,7 @@ sets-last (x ∷ xs) l y i =
     let e : i + suc (length xs) ≡ suc i + length xs = omega arith in
     rw (sets-last xs (set l i x) y (suc i), e, set-comm l i (suc i + length xs) x y (λ f. omega arith))
 
--- ---- one text behind another
+-- ---- one text after another
 module _ (l : List ℕ) (at : ℕ) (xs ys : List ℕ) where
   pub room-first : Room l at (xs ++ ys) → Room l at xs
   room-first h = omega (arith, length-append xs ys)
@@ -44,7 +44,7 @@ module _ (l : List ℕ) (at : ℕ) (a b c : List ℕ) (h : Room l at (a ++ b ++ 
     pub room-three : (n : List ℕ) (j : ℕ) → Put m i b n j → Room n j c
     room-three n j q = room-then l at (a ++ b) c n j (then l at a b m i p n j q) h
 
--- ---- a text put from the first byte on stands over what was there, and what is behind it stays
+-- ---- a text put from the first byte on stands over what was there, and what is after it stays
 module _ (l t m : List ℕ) (r : ℕ) (p : Put l 0 t m r) where
   pub over-next : r ≡ length t
   over-next = p .next ∙ zero-add (length t)

@@ -12,7 +12,7 @@ use Rattle.text.specs.Text.{ascii, digits, digitCount, decimal, pointed,
 use Rattle.text.specs.Read.{spelled, minus, amountRead}
 use Rattle.text.proofs.Digits.{digitCount-hold, tenth-first}
 
--- ---- a text behind a text
+-- ---- a text after a text
 spelled-append : (n : ℕ) (xs ys : List ℕ) → spelled n (xs ++ ys) ≡ spelled (spelled n xs) ys
 unfolding spelled
 spelled-append n [] ys = refl

@@ -25,10 +25,10 @@ module _ (g : ℕ → ℕ) (l : List ℕ) where
         | no j ↦ let e : k ≡ n = omega arith in rw e (getD-set-same (filled g n l) n (g n) 0 (omega (arith, filled-length n)))
       ]
 
-  pub filled-behind : (n k : ℕ) → n ≤ k → getD (filled g n l) k 0 ≡ getD l k 0
+  pub filled-after : (n k : ℕ) → n ≤ k → getD (filled g n l) k 0 ≡ getD l k 0
   unfolding filled
-  filled-behind zero k h = refl
-  filled-behind (suc n) k h = getD-set-other (filled g n l) n k (g n) 0 (λ e. omega arith) ∙ filled-behind n k (omega arith)
+  filled-after zero k h = refl
+  filled-after (suc n) k h = getD-set-other (filled g n l) n k (g n) 0 (λ e. omega arith) ∙ filled-after n k (omega arith)
 
   -- one item more, and all of them
   pub filled-on : (k r : ℕ) (m : List ℕ) → m ≡ filled g k l → r ≡ g k → set m k r ≡ filled g (k + 1) l
@@ -46,11 +46,11 @@ module _ (g : ℕ → ℕ) (l : List ℕ) where
       (λ k h.
       elim (decLt k n) [
         | yes j ↦ filled-at n k room j ∙ first k j
-        | no j ↦ filled-behind n k (omega arith) ∙ rest k (omega arith) (omega (arith, filled-length n))
+        | no j ↦ filled-after n k (omega arith) ∙ rest k (omega arith) (omega (arith, filled-length n))
       ])
 
 -- filled twice, it is filled by the later sequence
 pub filled-over : (f g h : ℕ → ℕ) (l : List ℕ) (n : ℕ) → n ≤ length l → ((k : ℕ) → k < n → g k ≡ h k) → filled g n (filled f n l) ≡ filled h n l
 filled-over f g h l n room same =
     filled-is g (filled f n l) n (filled h n l) (omega (arith, filled-length f l n)) (filled-length f l n ∙ sym (filled-length h l n))
-    (λ k i. same k i ∙ sym (filled-at h l n k room i)) (λ k i j. filled-behind f l n k i ∙ sym (filled-behind h l n k i))
+    (λ k i. same k i ∙ sym (filled-at h l n k room i)) (λ k i j. filled-after f l n k i ∙ sym (filled-after h l n k i))

@@ -1,5 +1,5 @@
 -- Polynomials with whole coefficients in a normal form, monomials sorted and like ones joined, and the proof that the form keeps the value.
--- This is the computation behind proofs/Ring.antt; nothing else uses it. Assumes nothing.
+-- This is the computation after proofs/Ring.antt; nothing else uses it. Assumes nothing.
 use mathlib.Core.Path.{_≡_, refl, sym, _∙_, ap}
 use mathlib.Core.List.{List, [], _∷_}
 use mathlib.Core.Bool.{Bool, true, false, _&&_}
@@ -64,7 +64,7 @@ abbrev mulm : Mono → Mono → Mono
 mulm one n = n
 mulm (by i m) n = insm i (mulm m n)
 
--- a term before another, or behind it, where the rest r already has it
+-- a term before another, or after it, where the rest r already has it
 abbrev order : Bool → ℤ → Mono → ℤ → Mono → Poly → Poly → Poly
 order true c m d n p r = term c m (term d n p)
 order false c m d n p r = term d n r

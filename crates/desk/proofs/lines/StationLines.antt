@@ -16,7 +16,7 @@ use Rattle.text.proofs.Putting.{room-first, room-then, then}
 use Rattle.desk.specs.Sheet.{stationLine, lineOf, stationLines, areaLine}
 
 module _ (words : List ℤ) where
-  -- ---- the place of a station, behind its number
+  -- ---- the place of a station, after its number
   module _ (l m : List ℕ) (at k i : ℕ) (y z : ℤ) (p : Put l at (decimal k) m i) (e : y ≡ getD words (2 * k) (pos 0)) (f : z ≡ getD words (2 * k + 1) (pos 0)) where
     pub place-room : Room l at (lineOf words k) → Room m i ((ascii " " ++ plain 2 y) ++ (ascii " " ++ plain 2 z) ++ ascii "\n")
     unfolding lineOf stationLine

@@ -1,5 +1,5 @@
 -- A record at a place of the tape. The first test that it fails gives the refusal, and one that
--- passes all leaves the reading from behind it on, whatever its kind; then, kind by kind, what the
+-- passes all leaves the reading from after it on, whatever its kind; then, kind by kind, what the
 -- reader's functions find.
 use Prim.Native.Nat.{ℕ, _+_, _-_, _≤_, _<_}
 use native.Mathlib.Decide.{decLt, ℕ-discrete}

@@ -1,4 +1,4 @@
--- `put_amount` meets its contract: the sign, and the size with its decimals behind it.
+-- `put_amount` meets its contract: the sign, and the size with its decimals after it.
 use borrow.Author.Needs.{needs}
 use Rattle.text.specs.Text.{amount}
 use Rattle.text.proofs.Amounts.{unit-positive, size-room, amount-put}

@@ -1,5 +1,5 @@
 -- `put_pairs` meets its contract. The loop's invariant: with the digits of the rest put in front of those that stand, all digits stand; two are put a turn, and
--- one is left behind the loop where their number is odd. The measure is what is left.
+-- one is left after the loop where their number is odd. The measure is what is left.
 use Prim.Native.Nat.{_+_, _≤_}
 use mathlib.Core.Path.{_≡_}
 use native.Mathlib.Omega.{arith}

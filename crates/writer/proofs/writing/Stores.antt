@@ -37,7 +37,7 @@ module _ (z : ℤ) (n : ℕ) (b : Bool) (e : n ≡ natAbs z) (f : b ≡ ltZ z (p
   unfolding written
   raw-above t = let s = sign-above z (sym f ∙ t) in rw (e, s .1)
 
--- ---- the fields of a record, each stored behind the one before
+-- ---- the fields of a record, each stored after the one before
 module _ (o p q r : List ℕ) where
   pub row-stored : (minute factor : ℕ) → r ≡ sets q 3 (bytes four factor)
       → q ≡ sets p 1 (bytes two minute) → p ≡ set o 0 5 → 7 ≤ length o

@@ -1,4 +1,4 @@
--- `settle` meets its contract: the test decides between the refusal and the answer, and the words are written behind it.
+-- `settle` meets its contract: the test decides between the refusal and the answer, and the words are written after it.
 use Rattle.sines.proofs.Own.{lent-entries}
 use Rattle.desk.proofs.Settling.{north-small, east-small, run-far, run-most-left, shared, near, closure-far, words-near, words-far}
 use Rattle.desk.proofs.Stations.{passed-words, passed-told}

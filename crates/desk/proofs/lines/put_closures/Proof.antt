@@ -1,4 +1,4 @@
--- `put_closures` meets its contract: three named amounts are put one behind the other.
+-- `put_closures` meets its contract: three named amounts are put one after the other.
 use borrow.Author.Needs.{needs}
 use Rattle.text.proofs.Putting.{room-one, room-two, room-three, then}
 use Rattle.desk.specs.Sheet.{closures}

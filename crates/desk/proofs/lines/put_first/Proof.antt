@@ -1,4 +1,4 @@
--- `put_first` meets its contract: the closures, and the precision number behind them.
+-- `put_first` meets its contract: the closures, and the precision number after them.
 use borrow.Author.Needs.{needs}
 use Rattle.text.proofs.Putting.{room-first, room-then, then}
 use Rattle.desk.specs.Sheet.{closeLine}

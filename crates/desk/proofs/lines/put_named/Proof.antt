@@ -1,4 +1,4 @@
--- `put_named` meets its contract: the amount stands behind its name.
+-- `put_named` meets its contract: the amount stands after its name.
 use borrow.Author.Needs.{needs}
 use Rattle.text.proofs.Putting.{room-first, room-then, then}
 use Rattle.desk.proofs.lines.put_named.Statement.{statement}

@@ -1,4 +1,4 @@
--- `put_station` meets its contract: the station's number, and its place from the words behind it.
+-- `put_station` meets its contract: the station's number, and its place from the words after it.
 use borrow.Author.Needs.{needs}
 use Rattle.text.proofs.Putting.{room-first}
 use Rattle.desk.specs.Sheet.{lineOf, stationLine}

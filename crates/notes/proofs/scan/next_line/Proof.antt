@@ -1,4 +1,4 @@
--- `next_line` answers a place behind the one given: no place of the loop lies before it.
+-- `next_line` answers a place after the one given: no place of the loop lies before it.
 use borrow.Author.Needs.{needs}
 use Prim.Native.Nat.{_-_, _≤_}
 use lib.ListN.{length}

@@ -1,4 +1,4 @@
--- `close` meets its contract: nothing else may stand there, for the legs are behind, and without a
+-- `close` meets its contract: nothing else may stand there, for the legs are after, and without a
 -- leg it may not either.
 use borrow.Author.Needs.{needs}
 use Rattle.records.specs.Record.{bodyOf, kindFields, table}

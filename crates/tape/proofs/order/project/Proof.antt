@@ -1,4 +1,4 @@
--- `project` meets its contract: nothing else may stand there, for the rows are behind, and the
+-- `project` meets its contract: nothing else may stand there, for the rows are after, and the
 -- latitude is among their minutes or is refused.
 use borrow.Author.Needs.{needs}
 use Rattle.records.specs.Record.{bodyOf, kindFields, table}

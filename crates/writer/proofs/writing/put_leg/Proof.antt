@@ -1,4 +1,4 @@
--- `put_leg` meets its contract: the kind's byte, then each field behind the one before.
+-- `put_leg` meets its contract: the kind's byte, then each field after the one before.
 use denote.Ref.{now}
 use borrow.Author.Needs.{needs}
 use Rattle.records.specs.Record.{bodyOf, kindFields, table}
