@@ -1,5 +1,6 @@
--- What is told determines the answer: two answers that tell the same are the same. So a promise `told r ≡ ..` allows one answer only, and
--- "any two outcomes coincide" is one of these laws at each step.
+-- What is told determines the answer: two answers that tell the same are the same. So a promise
+-- `told r ≡ ..` allows one answer only, and "any two outcomes coincide" is one of these laws at
+-- each step.
 use mathlib.Core.Path.{_≡_, refl, sym, _∙_, ap}
 use mathlib.Core.Bool.{Bool}
 use Prim.Native.Nat.{ℕ}
@@ -56,7 +57,8 @@ amounts-coincide t x y e f = one-amount x y (e ∙ sym f)
 pub counts-coincide : (t : ToldStep) (x y : Count) → toldCount x ≡ t → toldCount y ≡ t → x ≡ y
 counts-coincide t x y e f = one-count x y (e ∙ sym f)
 
-pub verdicts-coincide : (t : ToldStep) (x y : Verdict) → toldVerdict x ≡ t → toldVerdict y ≡ t → x ≡ y
+pub verdicts-coincide : (t : ToldStep) (x y : Verdict) → toldVerdict x ≡ t → toldVerdict y ≡ t
+    → x ≡ y
 verdicts-coincide t x y e f = one-verdict x y (e ∙ sym f)
 
 -- ---- two values that are told of one answer

@@ -1,5 +1,6 @@
--- How a step's code meets its telling: the value where every test of a range passed, 4 at place 0 where one failed. `search ranges` goes from the
--- tests of the code to the range of the definition, whatever tests there are.
+-- How a step's code meets its telling: the value where every test of a range passed, 4 at place 0
+-- where one failed. `search ranges` goes from the tests of the code to the range of the definition,
+-- whatever tests there are.
 use mathlib.Core.Path.{_≡_, refl, sym, _∙_, ap}
 use mathlib.Core.Bool.{Bool, true, false, _&&_}
 use Prim.Native.Nat.{ℕ, _≤_, _<_}
@@ -11,22 +12,27 @@ use Rattle.whole.specs.declared.Whole.{Whole}
 use Rattle.answer.specs.declared.Amount.the-variants as amount
 use Rattle.answer.specs.declared.Count.the-variants as count
 use Rattle.answer.specs.declared.Verdict.the-variants as verdict
-use Rattle.answer.specs.Told.{ToldStep, toldAmount, toldCount, toldVerdict, given, inRange, inside, passes}
+use Rattle.answer.specs.Told.{ToldStep, toldAmount, toldCount, toldVerdict, given, inRange}
+use Rattle.answer.specs.Told.{inside, passes}
 
 -- ---- the value, where the input is in range
-pub tells : (good : Bool) (v : Whole) (z : ℤ) → good ≡ true → v .v ≡ z → toldAmount (amount.Is v) ≡ inRange good z
+pub tells : (good : Bool) (v : Whole) (z : ℤ) → good ≡ true → v .v ≡ z
+    → toldAmount (amount.Is v) ≡ inRange good z
 unfolding toldAmount
 tells good v z e f = rw e (ap given f)
 
-pub counts : (good : Bool) (n m : ℕ) → good ≡ true → n ≡ m → toldCount (count.Is n) ≡ inRange good (pos m)
+pub counts : (good : Bool) (n m : ℕ) → good ≡ true → n ≡ m
+    → toldCount (count.Is n) ≡ inRange good (pos m)
 unfolding toldCount
 counts good n m e f = rw e (ap (λ (k : ℕ). given (pos k)) f)
 
-pub passing : (good ok : Bool) → good ≡ true → ok ≡ true → toldVerdict verdict.Passes ≡ inRange good (passes ok)
+pub passing : (good ok : Bool) → good ≡ true → ok ≡ true
+    → toldVerdict verdict.Passes ≡ inRange good (passes ok)
 unfolding toldVerdict
 passing good ok e f = rw (e, f)
 
-pub failing : (good ok : Bool) → good ≡ true → ok ≡ false → toldVerdict verdict.Fails ≡ inRange good (passes ok)
+pub failing : (good ok : Bool) → good ≡ true → ok ≡ false
+    → toldVerdict verdict.Fails ≡ inRange good (passes ok)
 unfolding toldVerdict
 failing good ok e f = rw (e, f)
 
@@ -35,17 +41,21 @@ pub refuses : (good : Bool) (z : ℤ) → good ≡ false → toldAmount amount.O
 unfolding toldAmount
 refuses good z e = rw e
 
-pub refuses-count : (good : Bool) (z : ℤ) → good ≡ false → toldCount count.OutOfRange ≡ inRange good z
+pub refuses-count : (good : Bool) (z : ℤ) → good ≡ false
+    → toldCount count.OutOfRange ≡ inRange good z
 unfolding toldCount
 refuses-count good z e = rw e
 
-pub refuses-verdict : (good : Bool) (z : ℤ) → good ≡ false → toldVerdict verdict.OutOfRange ≡ inRange good z
+pub refuses-verdict : (good : Bool) (z : ℤ) → good ≡ false
+    → toldVerdict verdict.OutOfRange ≡ inRange good z
 unfolding toldVerdict
 refuses-verdict good z e = rw e
 
 -- ---- for a caller: the value of a step whose input is in range
-pub value-given : (t : ToldStep) (good : Bool) (z : ℤ) → t ≡ inRange good z → good ≡ true → t .value ≡ z
-value-given t good z e h = ap (λ (u : ToldStep). u .value) e ∙ ap (λ (b : Bool). (inRange b z) .value) h
+pub value-given : (t : ToldStep) (good : Bool) (z : ℤ) → t ≡ inRange good z → good ≡ true
+    → t .value ≡ z
+value-given t good z e h =
+    ap (λ (u : ToldStep). u .value) e ∙ ap (λ (b : Bool). (inRange b z) .value) h
 
 -- tests that are told alike are alike
 pub one-flag : (x y : Bool) → passes x ≡ passes y → x ≡ y
@@ -55,7 +65,8 @@ one-flag true false i = absurd (omega (arith, ap natAbs i))
 one-flag false true i = absurd (omega (arith, ap natAbs i))
 
 -- of a test, whether it passes
-pub verdict-given : (t : ToldStep) (good r ok : Bool) → t ≡ inRange good (passes ok) → good ≡ true → passes r ≡ t .value → r ≡ ok
+pub verdict-given : (t : ToldStep) (good r ok : Bool) → t ≡ inRange good (passes ok) → good ≡ true
+    → passes r ≡ t .value → r ≡ ok
 verdict-given t good r ok e h f = one-flag r ok (f ∙ value-given t good (passes ok) e h)
 
 -- ---- the range, from the code's tests
@@ -95,4 +106,7 @@ size-yes n k z e h = rw (← e) (le-leb n k h)
 pub size-no : (n k : ℕ) (z : ℤ) → n ≡ natAbs z → k < n → leb (natAbs z) k ≡ false
 size-no n k z e h = rw (← e) (lt-leb n k h)
 
-pub ruleset ranges = (tells, counts, passing, failing, refuses, refuses-count, refuses-verdict, both, not-first, not-second, inside-yes, inside-low, inside-high, size-yes, size-no, le-leb, lt-leb, lt-ltb, le-ltb)
+pub ruleset ranges =
+    (tells, counts, passing, failing, refuses, refuses-count, refuses-verdict, both, not-first,
+    not-second, inside-yes, inside-low, inside-high, size-yes, size-no, le-leb, lt-leb, lt-ltb,
+    le-ltb)

@@ -8,7 +8,8 @@ use borrow.Author.Tests.{ne-eqb}
 use lib.IntN.{ℤ, pos, natAbs}
 use lib.Signed.{ltZ}
 use Rattle.whole.proofs.Branch.{by-test}
-use Rattle.text.specs.Text.{ascii, digits, digitCount, decimal, pointed, sign, amount, signed, plain}
+use Rattle.text.specs.Text.{ascii, digits, digitCount, decimal, pointed, sign, amount, signed}
+use Rattle.text.specs.Text.{plain}
 use Rattle.desk.specs.Answer.{ToldTraverse}
 use Rattle.desk.specs.Sheet.{closures, closeLine, stationLine, lineOf, stationLines}
 use Rattle.desk.proofs.ShownLines.{linesBefore}

@@ -1,6 +1,7 @@
--- An answer whose number is 0 is an acceptance: there was room, the tape reads, and both tests were passed, since every refusal has a number above 0.
--- So what is told and what the words hold then follow from the number alone: small numbers, every station, the fixed points at both ends, and nothing
--- changed after.
+-- An answer whose number is 0 is an acceptance: there was room, the tape reads, and both tests were
+-- passed, since every refusal has a number above 0. So what is told and what the words hold then
+-- follow from the number alone: small numbers, every station, the fixed points at both ends, and
+-- nothing changed after.
 use Prim.Native.Nat.{ℕ, _+_, _*_, _^_, _≤_, _<_}
 use native.Mathlib.Omega.{arith}
 use mathlib.Core.Path.{_≡_, refl}
@@ -21,7 +22,10 @@ use Rattle.tape.specs.Fields.{fieldsOf, DoesRead}
 use Rattle.whole.proofs.Branch.{by-test}
 use Rattle.tape.proofs.Refusals.{reading-number}
 use Rattle.desk.specs.Angles.{misclosureOf, Balanced, balancedTraverse}
-use Rattle.desk.specs.Answer.{ToldTraverse, First, firstIf, firstOf, checkedAngles, northClosure, eastClosure, distanceRun, closesOn, adjustedTraverse, adjustedWords, afterFirst, firstFor, traversedBy, traversedWordsBy}
+use Rattle.desk.specs.Answer.{ToldTraverse, First, firstIf, firstOf, checkedAngles}
+use Rattle.desk.specs.Answer.{northClosure, eastClosure, distanceRun, closesOn}
+use Rattle.desk.specs.Answer.{adjustedTraverse, adjustedWords, afterFirst, firstFor}
+use Rattle.desk.specs.Answer.{traversedBy, traversedWordsBy}
 use Rattle.desk.specs.Inside.{Sound}
 use Rattle.desk.specs.Line.{closure, adjusted}
 use Rattle.desk.specs.Traverse.{along, line, wordIndex, withStations}
@@ -60,14 +64,18 @@ module _ (e : ℕ → ℤ) (tape : List ℕ) (room : ℕ) where
 
   pub accepted : Shown (traversedBy e tape room)
   unfolding traversedBy firstFor firstOf checkedAngles adjustedTraverse
-  accepted = by-test ShownAfter (ltb room 130) (λ few z. absurd (omega arith)) (λ wide. go (readingOf tape) refl (ltb-false room 130 wide))
+  accepted = by-test ShownAfter (ltb room 130) (λ few z. absurd (omega arith))
+      (λ wide. go (readingOf tape) refl (ltb-false room 130 wide))
     where
       go : (r : Reading) → readingOf tape ≡ r → 130 ≤ room → ShownAfter (firstIf r (fieldsOf tape))
       go (reading.Refused n p) h wide = λ z. absurd (omega (arith, reading-number tape n p h .0))
       go (reading.Reads st) h wide =
-          by-test ShownAfter (closesAngles (misclosureOf (fieldsOf tape)) (fieldsOf tape .line .legs))
+          by-test ShownAfter (closesAngles (misclosureOf (fieldsOf tape))
+          (fieldsOf tape .line .legs))
           (λ a.
-          by-test Shown (closesOn e (balancedTape tape)) (λ c z. record { wide = wide; reads = record { last = st; reads = h }; angles = a; closes = c })
+          by-test Shown (closesOn e (balancedTape tape))
+              (λ c z. record { wide = wide; reads = record { last = st; reads = h }; angles = a;
+              closes = c })
           (λ c z. absurd (omega arith)))
           (λ a z. absurd (omega arith))
 
@@ -80,16 +88,20 @@ module _ (e : ℕ → ℤ) (tape : List ℕ) (room : ℕ) where
 
   pub number-most : Nine (traversedBy e tape room)
   unfolding traversedBy firstFor firstOf checkedAngles adjustedTraverse
-  number-most = by-test NineAfter (ltb room 130) (λ few. omega arith) (λ wide. go (readingOf tape) refl)
+  number-most = by-test NineAfter (ltb room 130) (λ few. omega arith)
+      (λ wide. go (readingOf tape) refl)
     where
       go : (r : Reading) → readingOf tape ≡ r → NineAfter (firstIf r (fieldsOf tape))
       go (reading.Refused n p) h = omega (arith, reading-number tape n p h .1)
       go (reading.Reads st) h =
-          by-test NineAfter (closesAngles (misclosureOf (fieldsOf tape)) (fieldsOf tape .line .legs))
-          (λ a. by-test Nine (closesOn e (balancedTape tape)) (λ c. omega arith) (λ c. omega arith)) (λ a. omega arith)
+          by-test NineAfter (closesAngles (misclosureOf (fieldsOf tape))
+          (fieldsOf tape .line .legs))
+          (λ a. by-test Nine (closesOn e (balancedTape tape)) (λ c. omega arith) (λ c. omega arith))
+          (λ a. omega arith)
 
   -- and the answer is that of the second step
-  pub accepted-told : Accepted e tape room → traversedBy e tape room ≡ adjustedTraverse e (balancedTape tape)
+  pub accepted-told : Accepted e tape room
+      → traversedBy e tape room ≡ adjustedTraverse e (balancedTape tape)
   unfolding traversedBy firstFor firstOf checkedAngles
   accepted-told a = rw (le-ltb room 130 (a .wide), a .reads .reads, a .angles)
 
@@ -106,7 +118,8 @@ module _ (e : ℕ → ℤ) (tape : List ℕ) (room : ℕ) where
       let b = balancedTape tape in
       let f = fieldsOf tape in
       let sound = accepted-sound a in
-      let near : (axis : Axis) → natAbs (closure (line e axis b)) ≤ 26000 = λ axis. closes-near b sound e axis (a .closes) in
+      let near : (axis : Axis) → natAbs (closure (line e axis b)) ≤ 26000 =
+          λ axis. closes-near b sound e axis (a .closes) in
       let run = run-small b sound in
       rw (accepted-told a, a .closes)
       (record {
@@ -114,12 +127,14 @@ module _ (e : ℕ → ℤ) (tape : List ℕ) (room : ℕ) where
         w = misclosure-most _ (f .closing .given);
         north = near north;
         east = near east;
-        precision = omega (arith, precision-most (northClosure e b) (eastClosure e b) (distanceRun b) (omega arith));
+        precision = omega (arith,
+            precision-most (northClosure e b) (eastClosure e b) (distanceRun b) (omega arith));
         area = area-most e entries b sound near;
       })
 
 -- ---- the words of an answer whose number is 0
-module _ (e : ℕ → ℤ) (tape : List ℕ) (words : List ℤ) (none : traversedBy e tape (length words) .number ≡ 0) where
+module _ (e : ℕ → ℤ) (tape : List ℕ) (words : List ℤ)
+    (none : traversedBy e tape (length words) .number ≡ 0) where
   abbrev b : Balanced
   b = balancedTape tape
 
@@ -133,20 +148,30 @@ module _ (e : ℕ → ℤ) (tape : List ℕ) (words : List ℤ) (none : traverse
   unfolding traversedWordsBy firstFor firstOf checkedAngles adjustedWords
   accepted-words = rw (le-ltb (length words) 130 (a .wide), a .reads .reads, a .angles, a .closes)
 
-  pub station : (axis : Axis) (k : ℕ) → k ≤ b .legs → getD (traversedWordsBy e tape words) (wordIndex axis k) (pos 0) ≡ adjusted (line e axis b) k
-  station axis k h = rw accepted-words (word-at e b words axis (b .legs + 1) k (omega arith) (omega (arith, sound .few, a .wide)))
+  pub station : (axis : Axis) (k : ℕ) → k ≤ b .legs
+      → getD (traversedWordsBy e tape words) (wordIndex axis k) (pos 0) ≡ adjusted (line e axis b) k
+  station axis k h = rw accepted-words
+      (word-at e b words axis (b .legs + 1) k (omega arith) (omega (arith, sound .few, a .wide)))
 
-  pub word-small : Entries e → (axis : Axis) (k : ℕ) → k ≤ b .legs → natAbs (getD (traversedWordsBy e tape words) (wordIndex axis k) (pos 0)) < 2 ^ 40
-  word-small entries axis k h = place-small e entries b sound axis k (closes-near b sound e axis (a .closes)) h _ (station axis k h)
+  pub word-small : Entries e → (axis : Axis) (k : ℕ) → k ≤ b .legs
+      → natAbs (getD (traversedWordsBy e tape words) (wordIndex axis k) (pos 0)) < 2 ^ 40
+  word-small entries axis k h =
+      place-small e entries b sound axis k (closes-near b sound e axis (a .closes)) h _
+      (station axis k h)
 
-  pub first-station : (axis : Axis) → getD (traversedWordsBy e tape words) (wordIndex axis 0) (pos 0) ≡ pos (along axis (fieldsOf tape .opening .from))
+  pub first-station : (axis : Axis)
+      → getD (traversedWordsBy e tape words) (wordIndex axis 0) (pos 0) ≡ pos
+      (along axis (fieldsOf tape .opening .from))
   unfolding balancedTraverse
   first-station axis = rw accepted-words (first-word e b words sound (a .wide) axis)
 
-  pub last-station : (axis : Axis) → getD (traversedWordsBy e tape words) (wordIndex axis (fieldsOf tape .line .legs)) (pos 0) ≡ pos (along axis (fieldsOf tape .closing .to))
+  pub last-station : (axis : Axis)
+      → getD (traversedWordsBy e tape words) (wordIndex axis (fieldsOf tape .line .legs))
+      (pos 0) ≡ pos (along axis (fieldsOf tape .closing .to))
   unfolding balancedTraverse
   last-station axis = rw accepted-words (last-word e b words sound (a .wide) axis)
 
-  pub later-words : (i : ℕ) → 2 * (fieldsOf tape .line .legs + 1) ≤ i → getD (traversedWordsBy e tape words) i (pos 0) ≡ getD words i (pos 0)
+  pub later-words : (i : ℕ) → 2 * (fieldsOf tape .line .legs + 1) ≤ i
+      → getD (traversedWordsBy e tape words) i (pos 0) ≡ getD words i (pos 0)
   unfolding balancedTraverse
   later-words i h = rw accepted-words (words-later e b words (b .legs + 1) i h)

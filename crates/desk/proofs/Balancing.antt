@@ -18,7 +18,8 @@ use Rattle.answer.specs.declared.Verdict.{Verdict}
 use Rattle.answer.specs.Told.{toldAmount, toldCount, toldVerdict, inside, passes}
 use Rattle.answer.proofs.Telling.{value-given, verdict-given, both, inside-yes}
 use Rattle.minutes.specs.Quadrant.{circle}
-use Rattle.steps.specs.Azimuth.{halfCircle, misclosure, closesAngles, balanced, ofAngles, misclosureStep, misclosureTest, balancedStep}
+use Rattle.steps.specs.Azimuth.{halfCircle, misclosure, closesAngles, balanced, ofAngles}
+use Rattle.steps.specs.Azimuth.{misclosureStep, misclosureTest, balancedStep}
 use Rattle.steps.specs.Share.{share, angleShareStep}
 use Rattle.steps.proofs.Sharing.{share-most}
 use Rattle.steps.proofs.Turning.{misclosure-is}
@@ -32,24 +33,30 @@ use Rattle.desk.proofs.Scaling.{combined-range}
 use Rattle.desk.proofs.Turning.{balanced-most, balanced-at-turned, filled-balanced-at}
 
 -- ---- an azimuth from two angles
-module _ (r : Count) (n a b x : ℕ) (e : toldCount r ≡ ofAngles a b (pos (x % circle))) (f : pos n ≡ toldCount r .value) (h : a < circle) (i : b < circle) where
+module _ (r : Count) (n a b x : ℕ) (e : toldCount r ≡ ofAngles a b (pos (x % circle)))
+    (f : pos n ≡ toldCount r .value) (h : a < circle) (i : b < circle) where
   pub azimuth-is : n ≡ x % circle
-  azimuth-is = ap natAbs (f ∙ value-given (toldCount r) _ _ e (both _ _ (lt-ltb a circle h) (lt-ltb b circle i)))
+  azimuth-is = ap natAbs
+      (f ∙ value-given (toldCount r) _ _ e (both _ _ (lt-ltb a circle h) (lt-ltb b circle i)))
 
   pub azimuth-turned : n < circle
   azimuth-turned = rw azimuth-is (mod-lt x (omega arith))
 
 -- ---- the misclosure
 pub misclosure-most : (carried given : ℕ) → natAbs (misclosure carried given) ≤ halfCircle
-misclosure-most carried given = let m = misclosure-is carried given in sized (misclosure carried given) (m .above) (m .most)
+misclosure-most carried given = let m = misclosure-is carried given in
+    sized (misclosure carried given) (m .above) (m .most)
   where
     sized : (w : ℤ) → negℤ (pos halfCircle) <ᶻ w → w ≤ᶻ pos halfCircle → natAbs w ≤ halfCircle
-    sized w a b = let v = vars (w ∷ []) in abs-under w (search ints) (omega (arith, lt a (search ints), le b (search ints)))
+    sized w a b = let v = vars (w ∷ []) in
+        abs-under w (search ints) (omega (arith, lt a (search ints), le b (search ints)))
 
-pub angles-close : (r : Verdict) (x : Bool) (w : ℤ) (n : ℕ) → toldVerdict r ≡ misclosureTest w n → passes x ≡ toldVerdict r .value → natAbs w ≤ 6480000 → 1 ≤ n → n ≤ 64
+pub angles-close : (r : Verdict) (x : Bool) (w : ℤ) (n : ℕ) → toldVerdict r ≡ misclosureTest w n
+    → passes x ≡ toldVerdict r .value → natAbs w ≤ 6480000 → 1 ≤ n → n ≤ 64
     → x ≡ closesAngles w n
 angles-close r x w n t f small low high =
-    verdict-given (toldVerdict r) _ x (closesAngles w n) t (both _ _ (le-leb (natAbs w) 6480000 small) (inside-yes 1 64 n low high)) f
+    verdict-given (toldVerdict r) _ x (closesAngles w n) t
+    (both _ _ (le-leb (natAbs w) 6480000 small) (inside-yes 1 64 n low high)) f
 
 -- ---- the balanced azimuth of a leg
 module _ (p : Amount) (r : Count) (n azimuth j angles : ℕ) (s w : ℤ)
@@ -75,7 +82,8 @@ module _ (p : Amount) (r : Count) (n azimuth j angles : ℕ) (s w : ℤ)
 
   pub balanced-is : n ≡ balanced azimuth (share w j angles)
   balanced-is =
-      ap natAbs (f ∙ value-given (toldCount r) _ _ e (both _ _ (lt-ltb azimuth circle turned) (le-leb (natAbs s) 6480000 part-small)))
+      ap natAbs (f ∙ value-given (toldCount r) _ _ e
+      (both _ _ (lt-ltb azimuth circle turned) (le-leb (natAbs s) 6480000 part-small)))
       ∙ ap (balanced azimuth) part-is
 
   pub balanced-turned : n < circle
@@ -98,9 +106,12 @@ module _ (w : ℤ) (legs ahead angles k : ℕ) (l m : List ℕ) (h : k < legs) (
   balancing-next r g = filled-on (balancedBy w ahead angles l) l k r m e (g ∙ rw unbalanced-yet)
 
 -- ---- the misclosure
-module _ (r : Amount) (v : ℤ) (closing given : ℕ) (g : v ≡ toldAmount r .value) (e : toldAmount r ≡ misclosureStep closing given) (h : closing < circle) (i : given < circle) where
+module _ (r : Amount) (v : ℤ) (closing given : ℕ) (g : v ≡ toldAmount r .value)
+    (e : toldAmount r ≡ misclosureStep closing given) (h : closing < circle)
+    (i : given < circle) where
   pub misclosure-value : v ≡ misclosure closing given
-  misclosure-value = g ∙ value-given (toldAmount r) _ _ e (both _ _ (lt-ltb closing circle h) (lt-ltb given circle i))
+  misclosure-value = g ∙ value-given (toldAmount r) _ _ e
+      (both _ _ (lt-ltb closing circle h) (lt-ltb given circle i))
 
   pub misclosure-small : natAbs v ≤ 6480000
   misclosure-small = rw misclosure-value (misclosure-most closing given)
@@ -120,12 +131,14 @@ module _ (f : Fields) where
       → getD (balancedTraverse f .distances) k 0 ≡ distanceAt f k
   unfolding balancedTraverse
   leg-measured k h few =
-      filled-at (distanceAt f) zeros (f .line .legs) k (omega (arith, length-replicate {A = ℕ} 64 0)) h
+      filled-at (distanceAt f) zeros (f .line .legs) k
+          (omega (arith, length-replicate {A = ℕ} 64 0)) h
 
   pub sound-of : Ready f → Sound (balancedTraverse f)
   unfolding balancedTraverse
   sound-of r =
-      let s = combined-range (f .site .elevation .v) (f .site .scale) (r .elevation) (r .scale-low) (r .scale-high) in
+      let s = combined-range (f .site .elevation .v) (f .site .scale) (r .elevation) (r .scale-low)
+          (r .scale-high) in
       record {
         some = r .some;
         few = r .few;

@@ -101,14 +101,16 @@ module _ (tape : List ℕ) (c : Control) (known : Known tape c) where
             at = s .next;
             is = e;
             stands =
-                rw (ap (λ (x : Sight). x .next) (h .is)) (leg-next tape (known .reads) k (h .at) (h .stands) under);
+                rw (ap (λ (x : Sight). x .next) (h .is))
+                    (leg-next tape (known .reads) k (h .at) (h .stands) under);
           }
 
       pub distance-next : (l m : List ℕ) → l ≡ filled (distanceAt f) k m
           → set l k (s .distance) ≡ filled (distanceAt f) (k + 1) m
       distance-next l m i =
           filled-on (distanceAt f) m k (s .distance) l i
-          (ap (λ (x : Sight). x .distance) (h .is) ∙ leg-distance tape (known .reads) k (h .at) (h .stands) under)
+          (ap (λ (x : Sight). x .distance) (h .is) ∙ leg-distance tape (known .reads) k (h .at)
+              (h .stands) under)
 
   pub first-turned : (s : Sight) → s ≡ sightAt tape (c .line) → s .angle < circle
   first-turned s e = sight-turned 0 s (first-sight s e) (omega arith)

@@ -1,5 +1,6 @@
--- Paper 01, "The sheet, and one printed whole": what the written rules print of the printed tape is the printed sheet, byte for byte, computed by antt from
--- the definitions; and a tape of no bytes is printed as its refusal.
+-- Paper 01, "The sheet, and one printed whole": what the written rules print of the printed tape is
+-- the printed sheet, byte for byte, computed by antt from the definitions; and a tape of no bytes
+-- is printed as its refusal.
 use Prim.Native.Nat.{ℕ, _^_, _<_}
 use native.Mathlib.Omega.{arith}
 use mathlib.Core.Path.{_≡_, refl, _∙_, ap}
@@ -13,7 +14,8 @@ use Rattle.desk.specs.Answer.{ToldTraverse}
 use Rattle.desk.proofs.Printed.{records, answer, stations, printed-told, printed-words}
 use Rattle.text.specs.Text.{ascii, digits, digitCountIn, decimal, pointed, sign, amount}
 use Rattle.text.proofs.Digits.{decimal-short}
-use Rattle.desk.specs.Sheet.{closures, closeLine, stationLine, lineOf, stationLines, areaLine, textOf, printedOf, printed}
+use Rattle.desk.specs.Sheet.{closures, closeLine, stationLine, lineOf, stationLines, areaLine}
+use Rattle.desk.specs.Sheet.{textOf, printedOf, printed}
 use Rattle.desk.specs.Sheet.{sheetWords}
 
 abbrev sheet : List ℕ
@@ -31,7 +33,8 @@ short : (n : ℕ) → n < 10 ^ 10 → decimal n ≡ digits (digitCountIn 9 n) n
 short n h = decimal-short 9 n h
 
 figures : printedOf answer (stations ++ replicate 120 (pos 0)) ≡ sheet
-unfolding digits digitCountIn pointed sign amount closures closeLine stationLine lineOf stationLines areaLine textOf printedOf
+unfolding digits digitCountIn pointed sign amount closures closeLine stationLine lineOf stationLines
+areaLine textOf printedOf
 figures =
     rw (
       short 0 (omega arith),
@@ -50,7 +53,8 @@ figures =
 pub printed-sheet : printed (tapeOf records) ≡ sheet
 unfolding printed
 printed-sheet =
-    ap (λ (t : ToldTraverse). printedOf t (sheetWords entry (tapeOf records))) printed-told ∙ ap (printedOf answer) (printed-words (pos 0)) ∙ figures
+    ap (λ (t : ToldTraverse). printedOf t (sheetWords entry (tapeOf records))) printed-told ∙ ap
+        (printedOf answer) (printed-words (pos 0)) ∙ figures
 
 pub printed-refusal : printed [] ≡ ascii "REFUSED 2\n"
 unfolding traversedBy firstFor firstOf readingOf walk digits digitCountIn decimal printedOf printed

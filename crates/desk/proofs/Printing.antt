@@ -1,4 +1,5 @@
--- What the program prints is the text that the sheet step shows, or the line of its refusal, which is short since no number is above 9.
+-- What the program prints is the text that the sheet step shows, or the line of its refusal, which
+-- is short since no number is above 9.
 use Prim.Native.Nat.{ℕ, _+_, _≤_, _<_}
 use native.Mathlib.Omega.{arith}
 use mathlib.Core.Path.{_≡_, refl, sym, _∙_, ap}
@@ -17,10 +18,14 @@ use Rattle.text.proofs.Lengths.{decimal-most}
 use Rattle.text.proofs.Putting.{over-next, over-bytes}
 use Rattle.desk.specs.declared.Page.{Page}
 use Rattle.desk.specs.declared.Page.the-variants.{Refused, Text}
-use Rattle.desk.specs.Sheet.{textOf, over, shown, shownBytes, answered, sheetWords, toldSheet, paged, pagedBytes, Showed, printedOf, printed, printedIn}
+use Rattle.desk.specs.Sheet.{textOf, over, shown, shownBytes, answered, sheetWords, toldSheet}
+use Rattle.desk.specs.Sheet.{paged, pagedBytes, Showed, printedOf, printed, printedIn}
 
-refusal-most : (tape : List ℕ) → length (ascii "REFUSED " ++ decimal (answered entry tape .number) ++ ascii "\n") ≤ 10
-refusal-most tape = simp length-append (omega (arith, decimal-most 0 (answered entry tape .number) (omega (arith, number-most entry tape 130))))
+refusal-most : (tape : List ℕ)
+    → length (ascii "REFUSED " ++ decimal (answered entry tape .number) ++ ascii "\n") ≤ 10
+refusal-most tape = simp length-append
+    (omega (arith, decimal-most 0 (answered entry tape .number)
+    (omega (arith, number-most entry tape 130))))
 
 module _ (tape out : List ℕ) where
   abbrev t : ToldTraverse
@@ -52,7 +57,8 @@ module _ (tape out : List ℕ) where
       unfolding shown
       text-case = go (eqb (t .number) 0) refl (sym e ∙ shows)
         where
-          go : (b : Bool) → eqb (t .number) 0 ≡ b → Text n ≡ cond b (Text (length (textOf t words))) (Refused (t .number) (t .place))
+          go : (b : Bool) → eqb (t .number) 0 ≡ b
+              → Text n ≡ cond b (Text (length (textOf t words))) (Refused (t .number) (t .place))
               → (eqb (t .number) 0 ≡ true) × (n ≡ length (textOf t words))
           go true f h = (f, ap (λ (p : Page). toldSheet p .used) h)
           go false f h = let z : _≡_ {A = ℕ} 0 1 = cc in absurd (omega arith)
@@ -71,7 +77,9 @@ module _ (tape out : List ℕ) where
       unfolding shown
       refused-case = go (eqb (t .number) 0) refl (sym e ∙ shows)
         where
-          go : (b : Bool) → eqb (t .number) 0 ≡ b → Refused n p ≡ cond b (Text (length (textOf t words))) (Refused (t .number) (t .place))
+          go : (b : Bool) → eqb (t .number) 0 ≡ b
+              → Refused n p ≡ cond b (Text (length (textOf t words)))
+              (Refused (t .number) (t .place))
               → (eqb (t .number) 0 ≡ false) × (n ≡ t .number)
           go false f h = (f, ap (λ (q : Page). toldSheet q .number) h)
           go true f h = let z : _≡_ {A = ℕ} 0 1 = cc in absurd (omega arith)
@@ -90,7 +98,8 @@ module _ (tape out : List ℕ) where
       pub refusal-room : Room m 0 (ascii "REFUSED " ++ decimal n ++ ascii "\n")
       refusal-room = rw untouched (omega (arith, short))
 
-      module _ (o : List ℕ) (k : ℕ) (x : Put m 0 (ascii "REFUSED " ++ decimal n ++ ascii "\n") o k) where
+      module _ (o : List ℕ) (k : ℕ)
+          (x : Put m 0 (ascii "REFUSED " ++ decimal n ++ ascii "\n") o k) where
         pub refusal-length : k ≡ length (printedIn tape (length out))
         refusal-length = rw line-is (over-next m _ o k x)
 

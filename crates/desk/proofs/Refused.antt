@@ -14,7 +14,8 @@ use Rattle.desk.specs.declared.Answer.the-variants as answer
 use Rattle.desk.specs.declared.Page.{Page}
 use Rattle.desk.specs.declared.Page.the-variants as page
 use Rattle.desk.specs.Angles.{Balanced}
-use Rattle.desk.specs.Answer.{refusedTraverse, toldTraverse, First, stopped, good, firstFor, closesOn, adjustedTraverse}
+use Rattle.desk.specs.Answer.{refusedTraverse, toldTraverse, First, stopped, good, firstFor}
+use Rattle.desk.specs.Answer.{closesOn, adjustedTraverse}
 use Rattle.desk.specs.Answer.{adjustedWords, afterFirst, wordsAfterFirst}
 use Rattle.desk.specs.Answer.{traversedBy, traversedWordsBy}
 use Rattle.desk.specs.Sheet.{shown, shownBytes, sheetBytes, answered, paged, pagedBytes}
@@ -22,7 +23,8 @@ use Rattle.desk.specs.Sheet.{Showed, toldSheet}
 
 -- ---- the traverse
 module _ (e : ℕ → ℤ) (words : List ℤ) where
-  second-kept : (b : Balanced) → (adjustedTraverse e b .number ≡ 0 → ⊥) → adjustedWords e b words ≡ words
+  second-kept : (b : Balanced) → (adjustedTraverse e b .number ≡ 0 → ⊥)
+      → adjustedWords e b words ≡ words
   unfolding adjustedTraverse adjustedWords
   second-kept b some =
       by-test (λ (l : List ℤ). l ≡ words) (closesOn e b)

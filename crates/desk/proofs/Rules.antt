@@ -16,7 +16,8 @@ use Rattle.steps.proofs.Turning.{turn-is, misclosure-is}
 use Rattle.tape.specs.Fields.{Fields, fieldsOf}
 use Rattle.desk.specs.declared.Answer.{Answer}
 use Rattle.desk.specs.Angles.{turnsOf, misclosureOf, Balanced, balancedTraverse}
-use Rattle.desk.specs.Answer.{ToldTraverse, toldTraverse, northClosure, eastClosure, distanceRun, adjustedTraverse}
+use Rattle.desk.specs.Answer.{ToldTraverse, toldTraverse, northClosure, eastClosure}
+use Rattle.desk.specs.Answer.{distanceRun, adjustedTraverse}
 use Rattle.desk.specs.Answer.{traversedBy}
 use Rattle.desk.specs.Inside.{Sound}
 use Rattle.desk.specs.Traverse.{azimuthOf}
@@ -57,7 +58,8 @@ module _ (e : ℕ → ℤ) (tape : List ℕ) (room : ℕ) (x : Answer)
 
   -- "Misclosure W = carried less given", of the closing azimuth
   pub misclosure-rule :
-      Misclosure (carried (turnsOf f) (toldTraverse x .legs)) (f .closing .given) (toldTraverse x .w)
+      Misclosure (carried (turnsOf f) (toldTraverse x .legs)) (f .closing .given)
+      (toldTraverse x .w)
   unfolding misclosureOf
   misclosure-rule =
       rw (legs-are, w-is) (misclosure-is (carried (turnsOf f) (f .line .legs)) (f .closing .given))
@@ -65,7 +67,8 @@ module _ (e : ℕ → ℤ) (tape : List ℕ) (room : ℕ) (x : Answer)
   -- "the balanced azimuth of leg j is the carried one less that share, modulo the circle": leg k,
   -- counted from 0, is at the (k+1)-th of n+1 angles
   pub azimuth-at : (k : ℕ) → k < toldTraverse x .legs
-      → Modulo (pos (carried (turnsOf f) k) -ℤ share (toldTraverse x .w) (k + 1) (toldTraverse x .legs + 1))
+      → Modulo (pos (carried (turnsOf f) k) -ℤ share (toldTraverse x .w) (k + 1)
+      (toldTraverse x .legs + 1))
       (azimuthOf b k)
   unfolding balancedAt balanced
   azimuth-at k h =
@@ -75,7 +78,8 @@ module _ (e : ℕ → ℤ) (tape : List ℕ) (room : ℕ) (x : Answer)
   -- "the largest whole P with P squared x 100 x (C_N squared + C_E squared) at most S squared", of
   -- the answer's own closures and of the whole grid distance run
   pub precision-rule :
-      Precision (toldTraverse x .northClosure) (toldTraverse x .eastClosure) (distanceRun b) (toldTraverse x .precision)
+      Precision (toldTraverse x .northClosure) (toldTraverse x .eastClosure) (distanceRun b)
+      (toldTraverse x .precision)
   unfolding adjustedTraverse
   precision-rule =
       let small = run-small b sound in

@@ -1,5 +1,5 @@
--- The two steps one after the other. A tape that reads has its fields in range, so no step asks for more than it has, and each way out of the code is
--- the same way out of the definition.
+-- The two steps one after the other. A tape that reads has its fields in range, so no step asks for
+-- more than it has, and each way out of the code is the same way out of the definition.
 use Prim.Native.Nat.{ℕ, _≤_, _<_}
 use mathlib.Core.Path.{_≡_, refl, sym, _∙_, subst}
 use mathlib.Core.List.{List}
@@ -20,7 +20,10 @@ use Rattle.desk.specs.declared.Answer.{Answer}
 use Rattle.desk.specs.declared.Checked.{Checked}
 use Rattle.desk.specs.declared.Checked.the-variants as checked
 use Rattle.desk.specs.declared.Frame.{Frame}
-use Rattle.desk.specs.Answer.{toldTraverse, refusedTraverse, First, stopped, good, checkedAngles, firstOf, firstFor, adjustedTraverse, adjustedWords, afterFirst, wordsAfterFirst, traversedBy, traversedWordsBy}
+use Rattle.desk.specs.Answer.{toldTraverse, refusedTraverse, First, stopped, good}
+use Rattle.desk.specs.Answer.{checkedAngles, firstOf, firstFor, adjustedTraverse}
+use Rattle.desk.specs.Answer.{adjustedWords, afterFirst, wordsAfterFirst, traversedBy}
+use Rattle.desk.specs.Answer.{traversedWordsBy}
 use Rattle.desk.specs.Traverse.{along}
 use Rattle.desk.specs.Inside.{Known, Ready, Sound, checkedAs, withLegs}
 use Rattle.tape.proofs.Standing.{took, took-not}
@@ -36,7 +39,8 @@ ready-of f r =
       mark = r .mark;
       given = r .given;
       angles = r .angles;
-      elevation = both (leZ (negℤ (pos 1000)) z) (leZ z (pos 20000)) (T-true _ (r .elevation .0 .le)) (T-true _ (r .elevation .1 .le));
+      elevation = both (leZ (negℤ (pos 1000)) z) (leZ z (pos 20000))
+          (T-true _ (r .elevation .0 .le)) (T-true _ (r .elevation .1 .le));
       scale-low = r .scale .0;
       scale-high = r .scale .1;
       far = λ k h. r .distances k h .0;
@@ -62,43 +66,58 @@ abbrev Leaves : First → Type 0
 Leaves (stopped n p) = n ≡ n
 Leaves (good b) = Sound b
 
-module _ (tape : List ℕ) (r : Checked) (azimuths distances : List ℕ) (f : checkedAs r azimuths distances ≡ checkedAngles (fieldsOf tape)) where
+module _ (tape : List ℕ) (r : Checked) (azimuths distances : List ℕ)
+    (f : checkedAs r azimuths distances ≡ checkedAngles (fieldsOf tape)) where
   -- what was checked, by what it came to
-  by-checked : {A : Type 0} (g : First → A) (x : Checked) → r ≡ x → g (checkedAs x azimuths distances) ≡ g (checkedAngles (fieldsOf tape))
+  by-checked : {A : Type 0} (g : First → A) (x : Checked) → r ≡ x
+      → g (checkedAs x azimuths distances) ≡ g (checkedAngles (fieldsOf tape))
   by-checked g x h = rw (← h, f)
 
-  pub first-sound : (c : Control) (b : Frame) → Known tape c → r ≡ checked.Good b → Sound (withLegs b azimuths distances)
+  pub first-sound : (c : Control) (b : Frame) → Known tape c → r ≡ checked.Good b
+      → Sound (withLegs b azimuths distances)
   unfolding checkedAngles
   first-sound c b known h =
       subst Leaves (sym (by-checked (λ (x : First). x) (checked.Good b) h))
-      (by-test Leaves (closesAngles _ _) (λ t. sound-of (fieldsOf tape) (tape-ready tape (known .reads))) (λ t. refl))
+      (by-test Leaves (closesAngles _ _)
+      (λ t. sound-of (fieldsOf tape) (tape-ready tape (known .reads))) (λ t. refl))
 
   module _ (e : ℕ → ℤ) where
     module _ (n p : ℕ) (h : r ≡ checked.Refused n p) where
       pub stopped-told : refusedTraverse n p ≡ afterFirst e (checkedAngles (fieldsOf tape))
       stopped-told = by-checked (afterFirst e) (checked.Refused n p) h
 
-      pub stopped-words : (words : List ℤ) → words ≡ wordsAfterFirst e (checkedAngles (fieldsOf tape)) words
-      stopped-words words = by-checked (λ (x : First). wordsAfterFirst e x words) (checked.Refused n p) h
+      pub stopped-words : (words : List ℤ)
+          → words ≡ wordsAfterFirst e (checkedAngles (fieldsOf tape)) words
+      stopped-words words =
+          by-checked (λ (x : First). wordsAfterFirst e x words) (checked.Refused n p) h
 
     module _ (b : Frame) (h : r ≡ checked.Good b) where
-      pub settled-told : (a : Answer) → toldTraverse a ≡ adjustedTraverse e (withLegs b azimuths distances) → toldTraverse a ≡ afterFirst e (checkedAngles (fieldsOf tape))
+      pub settled-told : (a : Answer)
+          → toldTraverse a ≡ adjustedTraverse e (withLegs b azimuths distances)
+          → toldTraverse a ≡ afterFirst e (checkedAngles (fieldsOf tape))
       settled-told a g = g ∙ by-checked (afterFirst e) (checked.Good b) h
 
-      pub settled-words : (l words : List ℤ) → l ≡ adjustedWords e (withLegs b azimuths distances) words → l ≡ wordsAfterFirst e (checkedAngles (fieldsOf tape)) words
-      settled-words l words g = g ∙ by-checked (λ (x : First). wordsAfterFirst e x words) (checked.Good b) h
+      pub settled-words : (l words : List ℤ)
+          → l ≡ adjustedWords e (withLegs b azimuths distances) words
+          → l ≡ wordsAfterFirst e (checkedAngles (fieldsOf tape)) words
+      settled-words l words g =
+          g ∙ by-checked (λ (x : First). wordsAfterFirst e x words) (checked.Good b) h
 
 -- ---- the whole, by any table of sines
-pub known-is : (tape : List ℕ) (t : Taken) → AllBytes tape → t ≡ takenOf tape → (c : Control) → t ≡ taken.Reads c → Known tape c
-known-is tape t b f c h = let k = took tape c (sym f ∙ h) in record { bytes = b; reads = k .0; is = k .1 }
+pub known-is : (tape : List ℕ) (t : Taken) → AllBytes tape → t ≡ takenOf tape → (c : Control)
+    → t ≡ taken.Reads c → Known tape c
+known-is tape t b f c h = let k = took tape c (sym f ∙ h) in
+    record { bytes = b; reads = k .0; is = k .1 }
 
 module _ (e : ℕ → ℤ) (tape : List ℕ) (words : List ℤ) where
   module _ (wide : 130 ≤ length words) (c : Control) (known : Known tape c) where
-    pub known-told : (r : Answer) → toldTraverse r ≡ afterFirst e (checkedAngles (fieldsOf tape)) → toldTraverse r ≡ traversedBy e tape (length words)
+    pub known-told : (r : Answer) → toldTraverse r ≡ afterFirst e (checkedAngles (fieldsOf tape))
+        → toldTraverse r ≡ traversedBy e tape (length words)
     unfolding traversedBy firstFor firstOf
     known-told r g = rw (le-ltb (length words) 130 wide, known .reads .reads) g
 
-    pub known-words : (l : List ℤ) → l ≡ wordsAfterFirst e (checkedAngles (fieldsOf tape)) words → l ≡ traversedWordsBy e tape words
+    pub known-words : (l : List ℤ) → l ≡ wordsAfterFirst e (checkedAngles (fieldsOf tape)) words
+        → l ≡ traversedWordsBy e tape words
     unfolding traversedWordsBy firstFor firstOf
     known-words l g = rw (le-ltb (length words) 130 wide, known .reads .reads) g
 
@@ -122,8 +141,10 @@ module _ (e : ℕ → ℤ) (tape : List ℕ) (words : List ℤ) where
       refused-words = rw (le-ltb (length words) 130 wide, took-not tape n p (sym f ∙ h))
 
     module _ (bytes : AllBytes tape) (c : Control) (h : t ≡ taken.Reads c) where
-      pub good-told : (r : Answer) → toldTraverse r ≡ afterFirst e (checkedAngles (fieldsOf tape)) → toldTraverse r ≡ traversedBy e tape (length words)
+      pub good-told : (r : Answer) → toldTraverse r ≡ afterFirst e (checkedAngles (fieldsOf tape))
+          → toldTraverse r ≡ traversedBy e tape (length words)
       good-told = known-told wide c (known-is tape t bytes f c h)
 
-      pub good-words : (l : List ℤ) → l ≡ wordsAfterFirst e (checkedAngles (fieldsOf tape)) words → l ≡ traversedWordsBy e tape words
+      pub good-words : (l : List ℤ) → l ≡ wordsAfterFirst e (checkedAngles (fieldsOf tape)) words
+          → l ≡ traversedWordsBy e tape words
       good-words = known-words wide c (known-is tape t bytes f c h)

@@ -1,4 +1,5 @@
--- The table's rule: one test that antt computes over all 5,401 entries against the power series, and the laws that carry it to each entry.
+-- The table's rule: one test that antt computes over all 5,401 entries against the power series,
+-- and the laws that carry it to each entry.
 use mathlib.Core.Path.{_≡_, refl, sym, _∙_, ap}
 use mathlib.Core.Bool.{Bool, false, _&&_}
 use Prim.Native.Nat.{ℕ, _≤_, min}
@@ -7,7 +8,8 @@ use lib.Dec.{T, leb, leb→le, eqb, eqb→eq}
 use lib.ListN.{getD}
 use lib.IntN.{ℤ, pos, negsuc, natAbs}
 use Rattle.whole.specs.Nearest.{nearest}
-use Rattle.minutes.specs.Exact.{exactSine, exactQuarter, bySeries, series, weight, unity, straight, pi, factorial}
+use Rattle.minutes.specs.Exact.{exactSine, exactQuarter, bySeries, series, weight, unity}
+use Rattle.minutes.specs.Exact.{straight, pi, factorial}
 use Rattle.minutes.specs.Quadrant.{around, turned, folded}
 use Rattle.minutes.specs.Entry.{Table, entry}
 use Rattle.minutes.proofs.Every.{both, every, at}
@@ -27,13 +29,15 @@ right : ℕ → ℕ → Bool
 right k x = is (entry k) x && leb x 1000000000
 
 all-right : T (every right 0 minutes)
-unfolding minutes right is entry nearest exactSine around turned folded exactQuarter bySeries series weight unity straight pi factorial
+unfolding minutes right is entry nearest exactSine around turned folded exactQuarter bySeries series
+weight unity straight pi factorial
 all-right = tt
 
 module _ (m : ℕ) (h : m ≤ 5400) where
   here : T (is (entry m) (getD minutes m 0)) × T (leb (getD minutes m 0) 1000000000)
   unfolding minutes right
-  here = both (is (entry m) (getD minutes m 0)) (leb (getD minutes m 0) 1000000000) (at right minutes all-right m (omega arith))
+  here = both (is (entry m) (getD minutes m 0)) (leb (getD minutes m 0) 1000000000)
+      (at right minutes all-right m (omega arith))
 
   pub is-entry : pos (getD minutes m 0) ≡ entry m
   is-entry = is-so (entry m) (getD minutes m 0) (here .0)

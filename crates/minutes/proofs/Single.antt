@@ -11,4 +11,5 @@ use Rattle.minutes.specs.Entry.{Table}
 pub table-single : (t u : List ℕ) → Table t → Table u → t ≡ u
 table-single t u p q =
     ext-getD 0 t u (p .count ∙ sym (q .count))
-    (λ i h. ap natAbs (p .each i (omega (arith, p .count)) ∙ sym (q .each i (omega (arith, p .count)))))
+    (λ i h. ap natAbs (p .each i (omega (arith, p .count)) ∙ sym
+    (q .each i (omega (arith, p .count)))))

@@ -13,7 +13,8 @@ use Rattle.whole.specs.declared.Whole.{Whole}
 use Rattle.records.specs.declared.Record.{Record}
 use Rattle.records.specs.declared.Record.the-variants as kinds
 use Rattle.records.specs.Bytes.{bytes}
-use Rattle.records.specs.Record.{kindFields, table, bodyOf, goodOf, bytesOf, recOf, goodRecord}
+use Rattle.records.specs.Record.{kindFields, table, bodyOf, goodOf, bytesOf, recOf}
+use Rattle.records.specs.Record.{goodRecord}
 use Rattle.records.specs.Record.{bytesOfRecord}
 
 -- ---- the record given is the case found
@@ -54,5 +55,6 @@ project-feet given latitude elevation e t =
     go (negsuc n) h =
         omega (
           arith,
-          leb-true n 999 (and-eq-true-iff (leb n 999) true .0 (and-eq-true-iff (leb n 999 && true) true .0 h .0) .0),
+          leb-true n 999 (and-eq-true-iff (leb n 999) true .0
+          (and-eq-true-iff (leb n 999 && true) true .0 h .0) .0),
         )

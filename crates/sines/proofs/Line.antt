@@ -1,5 +1,5 @@
--- The straight line between two entries: at either end it is the entry there, so that a whole minute may be counted from the one before; and it never
--- leaves what lies between the two.
+-- The straight line between two entries: at either end it is the entry there, so that a whole
+-- minute may be counted from the one before; and it never leaves what lies between the two.
 use mathlib.Core.Path.{_≡_, sym, _∙_, ap}
 use mathlib.Core.List.{[], _∷_}
 use Prim.Native.Nat.{ℕ, _+_, _-_, _*_, _/_, _%_, _≤_}
@@ -24,10 +24,13 @@ at-minute e f = ap (λ (q : ℤ). e +ℤ q) nothing ∙ +ℤ-idr e
 -- and at r = 600 it is the next one
 at-next : (e f : ℤ) → between e f 600 ≡ f
 unfolding between
-at-next e f = let v = vars (e ∷ f ∷ []) in rw (nearest-multiple (f -ℤ e) 600 (omega arith)) (same (search ints) (omega arith))
+at-next e f = let v = vars (e ∷ f ∷ []) in
+    rw (nearest-multiple (f -ℤ e) 600 (omega arith)) (same (search ints) (omega arith))
 
--- so the sine of an angle of the first quadrant is the same from any minute that lies no more than 600 tenths back
-pub from-minute : (e : ℕ → ℤ) (a m r : ℕ) → a ≡ 600 * m + r → r ≤ 600 → quarterBy e a ≡ between (e m) (e (m + 1)) r
+-- so the sine of an angle of the first quadrant is the same from any minute that lies no more than
+-- 600 tenths back
+pub from-minute : (e : ℕ → ℤ) (a m r : ℕ) → a ≡ 600 * m + r → r ≤ 600
+    → quarterBy e a ≡ between (e m) (e (m + 1)) r
 unfolding quarterBy
 from-minute e a m r i h =
     elim (decLt r 600) [
@@ -54,7 +57,8 @@ module _ (a b r : ℕ) (low : a ≤ b) where
   rising = rw e
     where
       e : (pos b -ℤ pos a) *ℤ pos r ≡ pos ((b - a) * r)
-      e = ap (λ (z : ℤ). z *ℤ pos r) (same {x = pos b -ℤ pos a} {y = pos (b - a)} (search ints) (omega arith))
+      e = ap (λ (z : ℤ). z *ℤ pos r)
+          (same {x = pos b -ℤ pos a} {y = pos (b - a)} (search ints) (omega arith))
 
   pub rising-most : r ≤ 600 → a + halfUp ((b - a) * r) 600 ≤ b
   rising-most h = omega (arith, part (b - a) r h)
@@ -67,15 +71,20 @@ module _ (a b r : ℕ) (low : b ≤ a) (h : r ≤ 600) where
   unfolding between nearest
   falling =
       rw (e, nearest-neg (pos ((a - b) * r)) 600 (omega arith))
-      (same {x = pos (a - halfUp ((a - b) * r) 600)} {y = pos a -ℤ pos (halfUp ((a - b) * r) 600)} (search ints) (omega (arith, falling-most)))
+      (same {x = pos (a - halfUp ((a - b) * r) 600)} {y = pos a -ℤ pos (halfUp ((a - b) * r) 600)}
+          (search ints) (omega (arith, falling-most)))
     where
       e : (pos b -ℤ pos a) *ℤ pos r ≡ negℤ (pos ((a - b) * r))
-      e = ap (λ (z : ℤ). z *ℤ pos r) (same {x = pos b -ℤ pos a} {y = negℤ (pos (a - b))} (search ints) (omega arith)) ∙ ring (pos (a - b) ∷ pos r ∷ []) (λ v. search exps) tt
+      e = ap (λ (z : ℤ). z *ℤ pos r)
+          (same {x = pos b -ℤ pos a} {y = negℤ (pos (a - b))} (search ints) (omega arith)) ∙ ring
+          (pos (a - b) ∷ pos r ∷ []) (λ v. search exps) tt
 
 -- so between two natural numbers it is one, and no larger than they are
-pub between-most : (a b r k : ℕ) → r ≤ 600 → a ≤ k → b ≤ k → (n : ℕ) × (between (pos a) (pos b) r ≡ pos n) × (n ≤ k)
+pub between-most : (a b r k : ℕ) → r ≤ 600 → a ≤ k → b ≤ k
+    → (n : ℕ) × (between (pos a) (pos b) r ≡ pos n) × (n ≤ k)
 between-most a b r k h i j =
     elim (decLe a b) [
-      | yes low ↦ (a + halfUp ((b - a) * r) 600, sym (rising a b r low), omega (arith, rising-most a b r low h))
+      | yes low ↦ (a + halfUp ((b - a) * r) 600, sym (rising a b r low),
+          omega (arith, rising-most a b r low h))
       | no high ↦ (a - halfUp ((a - b) * r) 600, sym (falling a b r (omega arith) h), omega arith)
     ]

@@ -77,7 +77,8 @@ lent-quarter t a m r v past h g = g ∙ sym (from-minute (entryIn t) a m r past 
 
 -- ---- so what the desk's own table tells is the paper's
 module _ (t : List ℕ) (right : Table t) (a : ℕ) (r : Amount) where
-  pub own-sine : toldAmount r ≡ ofAngle a (sineBy (entryIn t) a) → toldAmount r ≡ ofAngle a (sineBy entry a)
+  pub own-sine : toldAmount r ≡ ofAngle a (sineBy (entryIn t) a)
+      → toldAmount r ≡ ofAngle a (sineBy entry a)
   own-sine g = g ∙ ap (λ (e : ℕ → ℤ). ofAngle a (sineBy e a)) (own-entries t right)
 
   pub own-cosine : toldAmount r ≡ ofAngle a (cosineBy (entryIn t) a)
@@ -91,7 +92,8 @@ module _ (e : ℕ → ℤ) (entries : Entries e) where
   quarter-size a h =
       let x = entries .each (a / 600) (omega arith) in
       elim (ℕ-discrete (a % 600) 0) [
-        | yes z ↦ (x .0, ap (between (e (a / 600)) (e (a / 600 + 1))) z ∙ at-minute (e (a / 600)) (e (a / 600 + 1)) ∙ x .1, x .2)
+        | yes z ↦ (x .0, ap (between (e (a / 600)) (e (a / 600 + 1))) z ∙ at-minute (e (a / 600))
+            (e (a / 600 + 1)) ∙ x .1, x .2)
         | no z ↦
             let y = entries .each (a / 600 + 1) (omega arith) in
             let l = between-most (x .0) (y .0) (a % 600) nineDecimals (omega arith) (x .2) (y .2) in

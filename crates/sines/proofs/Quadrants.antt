@@ -1,4 +1,5 @@
--- The four quadrants: where each angle folds to, and what a sine carried round the circle is in each half.
+-- The four quadrants: where each angle folds to, and what a sine carried round the circle is in
+-- each half.
 use mathlib.Core.Path.{_≡_, refl, sym, _∙_}
 use mathlib.Core.Bool.{Bool, true, false}
 use Prim.Native.Nat.{ℕ, _-_, _≤_, _<_}
@@ -64,11 +65,16 @@ module _ (a : ℕ) (h : a < circle) where
   pub folded-ahead : folded (ahead a) ≡ 3240000 - folded a
   folded-ahead =
       elim (decLe a 3240000) [
-        | yes i ↦ rw (← first a i) (elim (decLe a 0) [ yes z ↦ in-first (omega arith) (omega arith) | no z ↦ sym (second (ahead a) (omega arith) (omega arith)) ∙ (omega arith) ])
+        | yes i ↦ rw (← first a i)
+            (elim (decLe a 0) [ yes z ↦ in-first (omega arith) (omega arith) | no z ↦
+            sym (second (ahead a) (omega arith) (omega arith)) ∙ (omega arith) ])
         | no i ↦ elim (decLe a 6480000) [
-          | yes j ↦ rw (← second a (omega arith) j) (sym (third (ahead a) (omega arith) (omega arith)) ∙ (omega arith))
+          | yes j ↦ rw (← second a (omega arith) j)
+              (sym (third (ahead a) (omega arith) (omega arith)) ∙ (omega arith))
           | no j ↦ elim (decLe a 9720000) [
-            | yes k ↦ rw (← third a (omega arith) k) (elim (decLe 9720000 a) [ yes z ↦ in-first (omega arith) (omega arith) | no z ↦ sym (fourth (ahead a) (omega arith)) ∙ (omega arith) ])
+            | yes k ↦ rw (← third a (omega arith) k)
+                (elim (decLe 9720000 a) [ yes z ↦ in-first (omega arith) (omega arith) | no z ↦
+                sym (fourth (ahead a) (omega arith)) ∙ (omega arith) ])
             | no k ↦ rw (← fourth a (omega arith)) (in-first (omega arith) (omega arith))
           ]
         ]
@@ -100,12 +106,18 @@ module _ (e : ℕ → ℤ) where
     size-is = sym (rw (← sine-is (ltb 6480000 a) refl) (turned-size (ltb 6480000 a) n))
 
   -- what the steps tell
-  pub sine-told : (a x n : ℕ) (v : Whole) → v .v ≡ turned (ltb 6480000 a) (pos n) → pos n ≡ quarterBy e x → x ≡ folded a → a < 12960000 → toldAmount (Is v) ≡ ofAngle a (sineBy e a)
+  pub sine-told : (a x n : ℕ) (v : Whole) → v .v ≡ turned (ltb 6480000 a) (pos n)
+      → pos n ≡ quarterBy e x → x ≡ folded a → a < 12960000
+      → toldAmount (Is v) ≡ ofAngle a (sineBy e a)
   sine-told a x n v d g f h = tells _ v _ (lt-ltb a 12960000 h) (d ∙ sine-is a x n f g _ refl)
 
-  pub cosine-told : (a x n : ℕ) (back : Bool) (v : Whole) → v .v ≡ turned back (pos n) → back ≡ ltb 6480000 (ahead a) → pos n ≡ quarterBy e (3240000 - x) → x ≡ folded a → a < 12960000
+  pub cosine-told : (a x n : ℕ) (back : Bool) (v : Whole) → v .v ≡ turned back (pos n)
+      → back ≡ ltb 6480000 (ahead a) → pos n ≡ quarterBy e (3240000 - x) → x ≡ folded a
+      → a < 12960000
       → toldAmount (Is v) ≡ ofAngle a (cosineBy e a)
-  cosine-told a x n back v d p g f h = tells _ v _ (lt-ltb a 12960000 h) (d ∙ sine-is (ahead a) (3240000 - x) n (rw f (sym (folded-ahead a h))) g back p)
+  cosine-told a x n back v d p g f h =
+      tells _ v _ (lt-ltb a 12960000 h)
+      (d ∙ sine-is (ahead a) (3240000 - x) n (rw f (sym (folded-ahead a h))) g back p)
 
 pub too-far : (a : ℕ) (z : ℤ) → 12960000 ≤ a → toldAmount OutOfRange ≡ ofAngle a z
 too-far a z h = refuses _ z (le-ltb a 12960000 h)

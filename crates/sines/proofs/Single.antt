@@ -10,10 +10,12 @@ use Rattle.sines.specs.declared.Turned.{Turned}
 
 -- `sine` and `cosine`, and with the entries of a lent table `sine_in` and `cosine_in`
 module _ (e : ℕ → ℤ) (a : ℕ) (x y : Amount) where
-  pub sine-single : toldAmount x ≡ ofAngle a (sineBy e a) → toldAmount y ≡ ofAngle a (sineBy e a) → x ≡ y
+  pub sine-single : toldAmount x ≡ ofAngle a (sineBy e a) → toldAmount y ≡ ofAngle a (sineBy e a)
+      → x ≡ y
   sine-single = amounts-coincide (ofAngle a (sineBy e a)) x y
 
-  pub cosine-single : toldAmount x ≡ ofAngle a (cosineBy e a) → toldAmount y ≡ ofAngle a (cosineBy e a) → x ≡ y
+  pub cosine-single : toldAmount x ≡ ofAngle a (cosineBy e a)
+      → toldAmount y ≡ ofAngle a (cosineBy e a) → x ≡ y
   cosine-single = amounts-coincide (ofAngle a (cosineBy e a)) x y
 
 -- `sides_in`

@@ -1,4 +1,5 @@
--- The sine and the cosine of one angle together, as sizes and signs: that the code's are those of the definition, and what a caller has of them.
+-- The sine and the cosine of one angle together, as sizes and signs: that the code's are those of
+-- the definition, and what a caller has of them.
 use mathlib.Core.Path.{_≡_, refl, sym, _∙_, ap}
 use mathlib.Core.Bool.{Bool}
 use Prim.Native.Nat.{ℕ, _+_, _-_, _≤_, _<_}
@@ -21,13 +22,17 @@ module _ (e : ℕ → ℤ) (a : ℕ) where
   no-sides h = rw (le-ltb a 12960000 h)
 
   pub no-circle : OutOfRange ≡ turnedBy e a → circle ≤ a
-  no-circle g = elim (decLt a circle) [ yes h ↦ absurd (let z : _≡_ {A = ℕ} 0 1 = cc (rw (lt-ltb a circle h) at g) in omega arith) | no h ↦ omega arith ]
+  no-circle g = elim (decLt a circle)
+      [ yes h ↦ absurd (let z : _≡_ {A = ℕ} 0 1 = cc (rw (lt-ltb a circle h) at g) in
+      omega arith) | no h ↦ omega arith ]
 
-  pub sides-are : (x m n : ℕ) (back : Bool) → x ≡ folded a → pos m ≡ quarterBy e x → pos n ≡ quarterBy e (3240000 - x) → back ≡ ltb 6480000 (ahead a) → a < 12960000
+  pub sides-are : (x m n : ℕ) (back : Bool) → x ≡ folded a → pos m ≡ quarterBy e x
+      → pos n ≡ quarterBy e (3240000 - x) → back ≡ ltb 6480000 (ahead a) → a < 12960000
       → Are (record { sine = m; past = ltb 6480000 a; cosine = n; back = back }) ≡ turnedBy e a
   unfolding sidesBy
   sides-are x m n back f g k b h =
-      rw (lt-ltb a 12960000 h, ← size-is e a x m f g, ← size-is e (ahead a) (3240000 - x) n (rw f (sym (folded-ahead a h))) k, b)
+      rw (lt-ltb a 12960000 h, ← size-is e a x m f g,
+      ← size-is e (ahead a) (3240000 - x) n (rw f (sym (folded-ahead a h))) k, b)
 
 -- ---- and what is told of each
 module _ (a : ℕ) where
@@ -35,22 +40,31 @@ module _ (a : ℕ) where
   no-angle z h = rw (le-ltb a 12960000 h)
 
   module _ (e : ℕ → ℤ) (x n : ℕ) (f : x ≡ folded a) (h : a < 12960000) where
-    pub sine-given : pos n ≡ quarterBy e x → given (turned (ltb 6480000 a) (pos n)) ≡ ofAngle a (sineBy e a)
+    pub sine-given : pos n ≡ quarterBy e x
+        → given (turned (ltb 6480000 a) (pos n)) ≡ ofAngle a (sineBy e a)
     sine-given g = rw (lt-ltb a 12960000 h) (ap given (sine-is e a x n f g (ltb 6480000 a) refl))
 
-    pub cosine-given : (back : Bool) → pos n ≡ quarterBy e (3240000 - x) → back ≡ ltb 6480000 (ahead a) → given (turned back (pos n)) ≡ ofAngle a (cosineBy e a)
-    cosine-given back g b = rw (lt-ltb a 12960000 h) (ap given (sine-is e (ahead a) (3240000 - x) n (rw f (sym (folded-ahead a h))) g back b))
+    pub cosine-given : (back : Bool) → pos n ≡ quarterBy e (3240000 - x)
+        → back ≡ ltb 6480000 (ahead a) → given (turned back (pos n)) ≡ ofAngle a (cosineBy e a)
+    cosine-given back g b =
+        rw (lt-ltb a 12960000 h)
+        (ap given (sine-is e (ahead a) (3240000 - x) n (rw f (sym (folded-ahead a h))) g back b))
 
 -- the size with the sign of its half of the circle is the sine again, since no entry is negative
-signed-again : (e : ℕ → ℤ) → Entries e → (a : ℕ) → a < circle → turned (ltb 6480000 a) (pos (natAbs (sineBy e a))) ≡ sineBy e a
+signed-again : (e : ℕ → ℤ) → Entries e → (a : ℕ) → a < circle
+    → turned (ltb 6480000 a) (pos (natAbs (sineBy e a))) ≡ sineBy e a
 signed-again e entries a h =
     let q = quarter-size e entries (folded a) (folded-most a h) in
-    rw (← size-is e a (folded a) (q .0) refl (sym (q .1))) (sine-is e a (folded a) (q .0) refl (sym (q .1)) (ltb 6480000 a) refl)
+    rw (← size-is e a (folded a) (q .0) refl (sym (q .1)))
+    (sine-is e a (folded a) (q .0) refl (sym (q .1)) (ltb 6480000 a) refl)
 
--- ---- for a caller who has them: no sine or cosine is above 1, and with its sign each is that of the angle
+-- ---- for a caller who has them: no sine or cosine is above 1, and with its sign each is that of
+-- the angle
 module _ (e : ℕ → ℤ) (entries : Entries e) (a : ℕ) (s : Sides) (g : Are s ≡ turnedBy e a) where
   pub in-circle : a < circle
-  in-circle = elim (decLt a circle) [ yes h ↦ h | no h ↦ absurd (let z : _≡_ {A = ℕ} 0 1 = cc (g ∙ sym (no-sides e a (omega arith))) in omega arith) ]
+  in-circle = elim (decLt a circle)
+      [ yes h ↦ h | no h ↦
+      absurd (let z : _≡_ {A = ℕ} 0 1 = cc (g ∙ sym (no-sides e a (omega arith))) in omega arith) ]
 
   these : s ≡ sidesBy e a
   these = cc (rw (lt-ltb a circle in-circle) at g)

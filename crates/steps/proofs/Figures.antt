@@ -10,11 +10,13 @@ use Rattle.whole.specs.Nearest.{nearest}
 use Rattle.whole.specs.Sum.{sumTo}
 use Rattle.answer.specs.Told.{ToldStep, given, inside}
 use Rattle.minutes.specs.Entry.{entry}
-use Rattle.minutes.specs.Exact.{exactSine, exactQuarter, bySeries, series, weight, unity, straight, pi, factorial}
+use Rattle.minutes.specs.Exact.{exactSine, exactQuarter, bySeries, series, weight, unity, straight}
+use Rattle.minutes.specs.Exact.{pi, factorial}
 use Rattle.minutes.specs.Quadrant.{around, turned, folded}
 use Rattle.sines.specs.Sine.{between, quarterBy, sineBy, ofAngle}
 use Rattle.steps.specs.Distance.{seaLevel, combine, grid, seaLevelStep, combineStep}
-use Rattle.steps.specs.Azimuth.{turn, misclosure, closesAngles, misclosureStep, misclosureTest}
+use Rattle.steps.specs.Azimuth.{turn, misclosure, closesAngles, misclosureStep}
+use Rattle.steps.specs.Azimuth.{misclosureTest}
 use Rattle.steps.specs.Share.{share, shareStep}
 use Rattle.steps.specs.Course.{north, east, move, sineAlong, courseStep}
 use Rattle.steps.specs.Root.{digitTo, withPair, worked}
@@ -69,7 +71,8 @@ others =
     ∷ fig (closureTest (pos 80) (pos 1) 4000030) (pos 0)
     ∷ fig (precisionStep (negℤ (pos 30)) (pos 29) 5276590) (pos 12646)
     ∷ fig (precisionStep (negℤ (pos 1)) (pos 2) 4000030) (pos 178886)
-    ∷ fig (areaStep (pos 0 ∷ pos 0 ∷ pos 100000 ∷ pos 0 ∷ pos 100001 ∷ pos 100001 ∷ pos 0 ∷ pos 100000 ∷ [])) (pos 20000200000)
+    ∷ fig (areaStep (pos 0 ∷ pos 0 ∷ pos 100000 ∷ pos 0 ∷ pos 100001 ∷ pos 100001 ∷ pos 0 ∷ pos
+    100000 ∷ [])) (pos 20000200000)
     ∷ []
 
 -- paper 02, b: the client's yard at 7,000 feet, and the two products that document 002 works out
@@ -82,14 +85,17 @@ products =
     ∷ []
 
 abbrev Hold : List Figure → Type 0
-Hold figures = map (λ (f : Figure). f .rule) figures ≡ map (λ (f : Figure). given (f .paper)) figures
+Hold figures = map (λ (f : Figure). f .rule) figures ≡ map
+    (λ (f : Figure). given (f .paper)) figures
 
 pub marked-hold : Hold marked
-unfolding marked sineBy quarterBy between entry nearest exactSine around turned folded exactQuarter bySeries series weight unity straight pi factorial seaLevel combine grid inside share move sineAlong
+unfolding marked sineBy quarterBy between entry nearest exactSine around turned folded exactQuarter
+bySeries series weight unity straight pi factorial seaLevel combine grid inside share move sineAlong
 marked-hold = refl
 
 pub others-hold : Hold others
-unfolding others turn misclosure closesAngles inside closes root precision cross nextStation doubledTo goodOffsets sumTo
+unfolding others turn misclosure closesAngles inside closes root precision cross nextStation
+doubledTo goodOffsets sumTo
 others-hold = refl
 
 pub products-hold : Hold products

@@ -1,5 +1,5 @@
--- Products of bounded numbers, which `omega` does not multiply by itself: the kit's law with its four numbers named, since `omega` is to prove its
--- premises.
+-- Products of bounded numbers, which `omega` does not multiply by itself: the kit's law with its
+-- four numbers named, since `omega` is to prove its premises.
 use Prim.Native.Nat.{ℕ, _+_, _*_, _≤_, _<_}
 use native.Mathlib.Nat.{mul-le-mul}
 use native.Mathlib.Decide.{decLe}

@@ -25,8 +25,10 @@ use Rattle.sines.specs.declared.Sides.{Sides}
 use Rattle.sines.specs.declared.Turned.{Turned}
 use Rattle.sines.specs.declared.Turned.the-variants as turn
 use Rattle.sines.proofs.Own.{Entries, sine-size, lent-entries}
-use Rattle.sines.proofs.Turns.{no-circle, in-circle, sine-most, cosine-most, sine-signed, cosine-signed}
-use Rattle.steps.specs.Course.{Axis, north, east, move, sineAlong, course, courseStep, toldMove}
+use Rattle.sines.proofs.Turns.{no-circle, in-circle, sine-most, cosine-most, sine-signed}
+use Rattle.sines.proofs.Turns.{cosine-signed}
+use Rattle.steps.specs.Course.{Axis, north, east, move, sineAlong, course, courseStep}
+use Rattle.steps.specs.Course.{toldMove}
 use Rattle.steps.specs.declared.course.Moves.{Moves}
 use Rattle.steps.specs.declared.course.Moves.the-variants.{Are, OutOfRange}
 use Rattle.steps.proofs.Laws.{product-most}
@@ -45,9 +47,11 @@ module _ (distance size : ℕ) where
         product : negℤ (negℤ (pos size) *ℤ pos distance) ≡ pos (distance * size)
         product = ring (pos size ∷ pos distance ∷ []) (λ u. search exps) tt
 
-    pub by-positive : (w : ℤ) → v ≡ negℤ w → w ≡ pos n → negative ≡ false → v ≡ move distance (turned negative (pos size))
+    pub by-positive : (w : ℤ) → v ≡ negℤ w → w ≡ pos n → negative ≡ false
+        → v ≡ move distance (turned negative (pos size))
     unfolding move turned nearest
-    by-positive w e g f = e ∙ rw (g, is, f, product, nearest-neg (pos (distance * size)) 10000000000 (omega arith))
+    by-positive w e g f =
+        e ∙ rw (g, is, f, product, nearest-neg (pos (distance * size)) 10000000000 (omega arith))
       where
         product : negℤ (pos size *ℤ pos distance) ≡ negℤ (pos (distance * size))
         product = ring (pos size ∷ pos distance ∷ []) (λ u. search exps) tt
@@ -63,16 +67,20 @@ module _ (e : ℕ → ℤ) (axis : Axis) (distance azimuth : ℕ) where
   unfolding toldAmount
   too-long-told h = rw (lt-leb distance 20100000 h)
 
-  pub no-azimuth : (r : Turned) → r ≡ turnedBy e azimuth → r ≡ turn.OutOfRange → toldMove axis OutOfRange ≡ courseStep e axis distance azimuth
+  pub no-azimuth : (r : Turned) → r ≡ turnedBy e azimuth → r ≡ turn.OutOfRange
+      → toldMove axis OutOfRange ≡ courseStep e axis distance azimuth
   unfolding toldMove
-  no-azimuth r g f = rw (le-ltb azimuth circle (no-circle e azimuth (sym f ∙ g)), not-second (leb distance 20100000) false refl)
+  no-azimuth r g f = rw
+      (le-ltb azimuth circle (no-circle e azimuth (sym f ∙ g)),
+      not-second (leb distance 20100000) false refl)
 
 -- the sine that counts along an axis, by both sides of the azimuth
 abbrev sideAlong : Axis → Sides → ℤ
 sideAlong north s = turned (s .back) (pos (s .cosine))
 sideAlong east s = turned (s .past) (pos (s .sine))
 
-module _ (t : List ℕ) (azimuth : ℕ) (r : Turned) (s : Sides) (g : r ≡ turnedBy (entryIn t) azimuth) (f : r ≡ turn.Are s) where
+module _ (t : List ℕ) (azimuth : ℕ) (r : Turned) (s : Sides) (g : r ≡ turnedBy (entryIn t) azimuth)
+    (f : r ≡ turn.Are s) where
   pub sine-small : s .sine ≤ 1000000000
   sine-small = sine-most (entryIn t) (lent-entries t) azimuth s (sym f ∙ g)
 
@@ -84,14 +92,21 @@ module _ (t : List ℕ) (azimuth : ℕ) (r : Turned) (s : Sides) (g : r ≡ turn
   side-is north = cosine-signed (entryIn t) (lent-entries t) azimuth s (sym f ∙ g)
   side-is east = sine-signed (entryIn t) (lent-entries t) azimuth s (sym f ∙ g)
 
-  pub along-told : (axis : Axis) (distance : ℕ) (v : ℤ) → distance ≤ 20100000 → v ≡ move distance (sideAlong axis s) → given v ≡ courseStep (entryIn t) axis distance azimuth
+  pub along-told : (axis : Axis) (distance : ℕ) (v : ℤ) → distance ≤ 20100000
+      → v ≡ move distance (sideAlong axis s)
+      → given v ≡ courseStep (entryIn t) axis distance azimuth
   along-told axis distance v h m =
-      rw (le-leb distance 20100000 h, lt-ltb azimuth circle (in-circle (entryIn t) (lent-entries t) azimuth s (sym f ∙ g)), m, side-is axis)
+      rw (le-leb distance 20100000 h,
+      lt-ltb azimuth circle (in-circle (entryIn t) (lent-entries t) azimuth s (sym f ∙ g)), m,
+      side-is axis)
 
 -- ---- for a caller whose leg is in range: the move along an axis, as `north` or `east` gives it
-pub move-given : (e : ℕ → ℤ) (axis : Axis) (distance azimuth : ℕ) (r : Moves) → distance ≤ 20100000 → azimuth < circle → toldMove axis r ≡ courseStep e axis distance azimuth
+pub move-given : (e : ℕ → ℤ) (axis : Axis) (distance azimuth : ℕ) (r : Moves) → distance ≤ 20100000
+    → azimuth < circle → toldMove axis r ≡ courseStep e axis distance azimuth
     → toldMove axis r .value ≡ course e axis distance azimuth
-move-given e axis distance azimuth r near within g = value-given (toldMove axis r) _ _ g (both _ _ (le-leb distance 20100000 near) (lt-ltb azimuth circle within))
+move-given e axis distance azimuth r near within g =
+    value-given (toldMove axis r) _ _ g
+    (both _ _ (le-leb distance 20100000 near) (lt-ltb azimuth circle within))
 
 -- ---- one move by a sine that was told, which is its size with its sign
 signed : (z : ℤ) → turned (ltZ z (pos 0)) (pos (natAbs z)) ≡ z
@@ -101,10 +116,12 @@ signed (negsuc n) = refl
 
 -- where the sine was refused, so is the move
 abbrev moveTold : ℕ → ToldStep → ToldStep
-moveTold distance sine = inRange (leb distance 20100000 && eqb (sine .number) 0) (move distance (sine .value))
+moveTold distance sine =
+    inRange (leb distance 20100000 && eqb (sine .number) 0) (move distance (sine .value))
 
 module _ (distance : ℕ) (s : Amount) where
-  pub no-sine : s ≡ amount.OutOfRange → toldAmount amount.OutOfRange ≡ moveTold distance (toldAmount s)
+  pub no-sine : s ≡ amount.OutOfRange
+      → toldAmount amount.OutOfRange ≡ moveTold distance (toldAmount s)
   unfolding toldAmount
   no-sine f = rw f (refuses _ _ (not-second (leb distance 20100000) false refl))
 
@@ -113,15 +130,20 @@ module _ (distance : ℕ) (s : Amount) where
     unfolding toldAmount
     size-small h = rw g (rw f at h)
 
-    pub move-told : (v : Whole) (below : Bool) → v .v ≡ move distance (turned below (pos size)) → below ≡ ltZ (w .v) (pos 0) → distance ≤ 20100000
+    pub move-told : (v : Whole) (below : Bool) → v .v ≡ move distance (turned below (pos size))
+        → below ≡ ltZ (w .v) (pos 0) → distance ≤ 20100000
         → toldAmount (amount.Is v) ≡ moveTold distance (toldAmount s)
     unfolding toldAmount
-    move-told v below m b h = rw f (tells _ v _ (both _ _ (le-leb distance 20100000 h) refl) (m ∙ rw (b, g, signed (w .v))))
+    move-told v below m b h =
+        rw f (tells _ v _ (both _ _ (le-leb distance 20100000 h) refl)
+        (m ∙ rw (b, g, signed (w .v))))
 
 -- no sine that counts along an axis is above 1
-pub along-most : (e : ℕ → ℤ) → Entries e → (axis : Axis) (azimuth : ℕ) → azimuth < circle → natAbs (sineAlong e axis azimuth) ≤ 1000000000
+pub along-most : (e : ℕ → ℤ) → Entries e → (axis : Axis) (azimuth : ℕ) → azimuth < circle
+    → natAbs (sineAlong e axis azimuth) ≤ 1000000000
 unfolding sineAlong
-along-most e entries north azimuth h = sine-size e entries (ahead azimuth) (mod-lt (azimuth + 3240000) (omega arith))
+along-most e entries north azimuth h =
+    sine-size e entries (ahead azimuth) (mod-lt (azimuth + 3240000) (omega arith))
 along-most e entries east azimuth h = sine-size e entries azimuth h
 
 -- and what a caller has who was told it

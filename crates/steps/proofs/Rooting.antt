@@ -1,8 +1,10 @@
--- The whole root and the precision number: the definitions have the properties that name them, and nothing else has.
+-- The whole root and the precision number: the definitions have the properties that name them, and
+-- nothing else has.
 use mathlib.Core.Path.{_≡_, refl, sym, _∙_}
 use mathlib.Core.Bool.{true, false, cond}
 use Prim.Native.Nat.{ℕ, zero, suc, _+_, _-_, _*_, _/_, _^_, _≤_, _<_}
-use native.Mathlib.Nat.{lt-of-le-of-lt, le-div-iff-mul-le, div-lt-iff-lt-mul, div-le-self, le-antisymm, pow-succ'}
+use native.Mathlib.Nat.{lt-of-le-of-lt, le-div-iff-mul-le, div-lt-iff-lt-mul, div-le-self}
+use native.Mathlib.Nat.{le-antisymm, pow-succ'}
 use native.Mathlib.Decide.{decLe, ℕ-discrete}
 use native.Mathlib.Omega.{arith}
 use borrow.Author.Tests.{le-leb, lt-leb, eq-eqb, ne-eqb}
@@ -18,40 +20,54 @@ use Rattle.steps.specs.Root.{WholeRoot, worked}
 use Rattle.steps.proofs.root.ByDigits.{worked-is}
 
 pub root-unique : (x r q : ℕ) → WholeRoot x r → WholeRoot x q → r ≡ q
-root-unique x r q h k = le-antisymm (below-root x q r (h .0) (k .1)) (below-root x r q (k .0) (h .1))
+root-unique x r q h k =
+    le-antisymm (below-root x q r (h .0) (k .1)) (below-root x r q (k .0) (h .1))
 
 pub root-is : (k x : ℕ) → x < 4 ^ k → WholeRoot x (root k x)
 unfolding root
 root-is zero x h = omega arith
 root-is (suc k) x h = next (root k (x / 4)) x (root-is k (x / 4) (omega (arith, pow-succ' 4 k)))
   where
-    next : (r x : ℕ) → WholeRoot (x / 4) r → WholeRoot x (cond (leb ((2 * r + 1) * (2 * r + 1)) x) (2 * r + 1) (2 * r))
+    next : (r x : ℕ) → WholeRoot (x / 4) r
+        → WholeRoot x (cond (leb ((2 * r + 1) * (2 * r + 1)) x) (2 * r + 1) (2 * r))
     next r x h =
         elim (decLe ((2 * r + 1) * (2 * r + 1)) x) [
           | yes i ↦ rw (le-leb ((2 * r + 1) * (2 * r + 1)) x i) (i, omega arith)
-          | no i ↦ rw (lt-leb ((2 * r + 1) * (2 * r + 1)) x (omega arith)) (omega arith, omega arith)
+          | no i ↦ rw (lt-leb ((2 * r + 1) * (2 * r + 1)) x (omega arith))
+              (omega arith, omega arith)
         ]
 
 -- ---- the precision number
 -- what the paper asks of P, with q for the sum of the closures' squares
-pub largest-root : (q s p : ℕ) → 0 < q → WholeRoot (s * s / (100 * q)) p → (p * p * (100 * q) ≤ s * s) × ((k : ℕ) → k * k * (100 * q) ≤ s * s → k ≤ p)
+pub largest-root : (q s p : ℕ) → 0 < q → WholeRoot (s * s / (100 * q)) p
+    → (p * p * (100 * q) ≤ s * s) × ((k : ℕ) → k * k * (100 * q) ≤ s * s → k ≤ p)
 largest-root q s p h r =
-    (le-div-iff-mul-le {k = 100 * q} (omega arith) .0 (r .0), λ k i. below-root (s * s / (100 * q)) p k (le-div-iff-mul-le {k = 100 * q} (omega arith) .1 i) (r .1))
+    (le-div-iff-mul-le {k = 100 * q} (omega arith) .0 (r .0),
+        λ k i. below-root (s * s / (100 * q)) p k
+        (le-div-iff-mul-le {k = 100 * q} (omega arith) .1 i) (r .1))
 
 small : (q s : ℕ) → s < 2 ^ 32 → s * s / (100 * q) < 4 ^ 32
-small q s h = lt-of-le-of-lt (div-le-self (s * s) (100 * q)) (lt-of-le-of-lt (product-most s s (2 ^ 32 - 1) (2 ^ 32 - 1) (omega arith) (omega arith)) (lit< tt))
+small q s h = lt-of-le-of-lt (div-le-self (s * s) (100 * q))
+    (lt-of-le-of-lt (product-most s s (2 ^ 32 - 1) (2 ^ 32 - 1) (omega arith) (omega arith))
+    (lit< tt))
 
-pub precision-is : (north east : ℤ) (s : ℕ) → s < 2 ^ 32 → Precision north east s (precision north east s)
+pub precision-is : (north east : ℤ) (s : ℕ) → s < 2 ^ 32
+    → Precision north east s (precision north east s)
 unfolding precision
 precision-is north east s h =
     elim (ℕ-discrete (squares north east) 0) [
-      | yes e ↦ rw (eq-eqb (squares north east) 0 e) (record { none = λ z. refl; fits = λ n. absurd (n e); largest = λ n. absurd (n e) })
+      | yes e ↦ rw (eq-eqb (squares north east) 0 e)
+          (record { none = λ z. refl; fits = λ n. absurd (n e); largest = λ n. absurd (n e) })
       | no n ↦
-          let l = largest-root (squares north east) s (root 32 (s * s / (100 * squares north east))) (omega arith) (root-is 32 (s * s / (100 * squares north east)) (small (squares north east) s h)) in
-          rw (ne-eqb (squares north east) 0 n) (record { none = λ z. absurd (n z); fits = λ z. l .0; largest = λ z. l .1 })
+          let l = largest-root (squares north east) s (root 32 (s * s / (100 * squares north east)))
+              (omega arith) (root-is 32 (s * s / (100 * squares north east))
+              (small (squares north east) s h)) in
+          rw (ne-eqb (squares north east) 0 n)
+              (record { none = λ z. absurd (n z); fits = λ z. l .0; largest = λ z. l .1 })
     ]
 
-pub precision-unique : (north east : ℤ) (s p r : ℕ) → Precision north east s p → Precision north east s r → p ≡ r
+pub precision-unique : (north east : ℤ) (s p r : ℕ) → Precision north east s p
+    → Precision north east s r → p ≡ r
 precision-unique north east s p r a b =
     elim (ℕ-discrete (squares north east) 0) [
       | yes e ↦ a .none e ∙ sym (b .none e)
@@ -65,7 +81,10 @@ precision-most north east s h =
     let r = precision-is north east s h in
     elim (ℕ-discrete (squares north east) 0) [
       | yes e ↦ omega (arith, r .none e)
-      | no n ↦ below-root (s * s) s p (omega (arith, r .fits n, product-most (p * p) 1 (p * p) (100 * squares north east) (omega arith) (omega arith))) (omega arith)
+      | no n ↦ below-root (s * s) s p
+          (omega (arith, r .fits n,
+          product-most (p * p) 1 (p * p) (100 * squares north east) (omega arith) (omega arith)))
+          (omega arith)
     ]
 
 -- ---- as the code has them
@@ -79,23 +98,28 @@ pub none-told : (north east : ℤ) (s : ℕ) → PrecisionTold north east s (tol
 unfolding toldCount
 none-told north east s = record { largest = λ z. absurd (omega (arith, z)) }
 
-module _ (north east : ℤ) (n e both s : ℕ) (f : n ≡ natAbs north) (g : e ≡ natAbs east) (b : both ≡ n * n + e * e) where
+module _ (north east : ℤ) (n e both s : ℕ) (f : n ≡ natAbs north) (g : e ≡ natAbs east)
+    (b : both ≡ n * n + e * e) where
   both-is : both ≡ squares north east
   both-is = b ∙ rw (f, g)
 
   pub hundred-fits : n ≤ 26000 → e ≤ 26000 → Fits w64 (100 * both)
-  hundred-fits h k = record { fits = omega (arith, b, product-most n n 26000 26000 h h, product-most e e 26000 26000 k k) }
+  hundred-fits h k = record
+      { fits = omega (arith, b, product-most n n 26000 26000 h h, product-most e e 26000 26000 k k)
+      }
 
   pub no-closure : both ≡ 0 → 0 ≡ precision north east s
   unfolding precision
   no-closure z = rw (eq-eqb (squares north east) 0 (sym both-is ∙ z))
 
-  pub some-closure : (r : ℕ) → WholeRoot (s * s / (100 * both)) r → (both ≡ 0 → ⊥) → s ≤ 1300000000 → r ≡ precision north east s
+  pub some-closure : (r : ℕ) → WholeRoot (s * s / (100 * both)) r → (both ≡ 0 → ⊥) → s ≤ 1300000000
+      → r ≡ precision north east s
   unfolding precision
   some-closure r h z k =
       rw (ne-eqb (squares north east) 0 (λ w. z (both-is ∙ w)))
       (root-unique (s * s / (100 * both)) r (root 32 (s * s / (100 * squares north east))) h
-      (rw both-is (root-is 32 (s * s / (100 * squares north east)) (small (squares north east) s (omega arith)))))
+      (rw both-is (root-is 32 (s * s / (100 * squares north east))
+      (small (squares north east) s (omega arith)))))
 
   -- the rule, of what is told: none of no closures, and else the root of the quotient
   pub zero-told : both ≡ 0 → PrecisionTold north east s (toldCount (Is 0))
@@ -131,4 +155,5 @@ precision-worked north east s z h =
     let q = squares north east in
     let x = s * s / (100 * q) in
     let r = worked-is 9 x (few-pairs q s z h) in
-    sym (some-closure north east (natAbs north) (natAbs east) q s refl refl refl (worked 9 x .root) r z h)
+    sym (some-closure north east (natAbs north) (natAbs east) q s refl refl refl
+    (worked 9 x .root) r z h)

@@ -18,7 +18,8 @@ use Rattle.whole.specs.Order.{_≤ᶻ_, _<ᶻ_}
 use Rattle.whole.proofs.Diff.{int}
 use Rattle.records.specs.Bytes.{Width, two, four, size, num, bytes, Coding, unsigned}
 use Rattle.records.specs.Bytes.{twosComplement, room, meant, written}
-use Rattle.records.specs.Record.{Field, Kind, Rec, table, look, kindFields, total, numbers, inRanges}
+use Rattle.records.specs.Record.{Field, Kind, Rec, table, look, kindFields, total, numbers}
+use Rattle.records.specs.Record.{inRanges}
 use Rattle.records.specs.Record.{spell, bodyOf, goodOf, bytesOf, numbersOf}
 use Rattle.tape.specs.Tape.{Next, walk, stepOf, judge, start, readingOf, recordsFrom}
 use Rattle.tape.specs.Tape.{recordsOf, tapeOf, runOf, fieldsRead}
@@ -152,7 +153,8 @@ length-spell (f ∷ fs) (v ∷ vs) e =
 
 -- bytes p that are still to pass are passed over
 past : (p l : List ℕ)
-    → ((st : State) (at : ℕ) → walk st at (length p) (p ++ l) ≡ walk st at 0 l) × (recordsFrom (length p) (p ++ l) ≡ recordsFrom 0 l)
+    → ((st : State) (at : ℕ) → walk st at (length p) (p ++ l) ≡ walk st at 0 l) ×
+        (recordsFrom (length p) (p ++ l) ≡ recordsFrom 0 l)
 unfolding walk recordsFrom
 past [] l = (λ st at. refl, refl)
 past (x ∷ p) l = past p l
@@ -172,7 +174,8 @@ module _ (k : ℕ) (vs : List ℤ) (l : List ℕ) (good : goodOf k vs ≡ true) 
   step-back : (st : State) → stepOf st (bytesOf k vs ++ l) ≡ judge st k true vs
   unfolding stepOf bytesOf
   step-back st =
-      let whole : bodyOf k < length (bytesOf k vs ++ l) = omega (arith, length-append (bytesOf k vs) l, length-body) in
+      let whole : bodyOf k < length (bytesOf k vs ++ l) =
+          omega (arith, length-append (bytesOf k vs) l, length-body) in
       rw (lt-ltb _ _ whole, numbers-back)
 
   walk-back : (st st′ : State) (at : ℕ) → Next st′ ≡ judge st k true vs
@@ -199,7 +202,8 @@ back-from (r ∷ rs) st at a e =
     let w = reads-next (judge st k true vs) at _ a e in
     let good = passed st (w .0) k true vs (w .1) .ok in
     let i = back-from rs (w .0) (at + 1 + bodyOf k) a (w .2) in
-    (walk-back k vs (tapeOf rs) good st (w .0) at (w .1) ∙ i .0, rw (records-back k vs (tapeOf rs) good, i .1))
+    (walk-back k vs (tapeOf rs) good st (w .0) at (w .1) ∙ i .0,
+    rw (records-back k vs (tapeOf rs) good, i .1))
 
 -- fields that no refusal tried before 8 meets, written as a tape, read back as the same fields
 pub same-records : (rs : List Rec) (a : State) → fieldsRead rs ≡ Reads a

@@ -15,7 +15,8 @@ use borrow.Author.Tests.{eqb-true, eq-eqb}
 use Rattle.whole.specs.Order.{_≤ᶻ_}
 use Rattle.whole.proofs.Branch.{by-test, either}
 use Rattle.whole.proofs.Diff.{int}
-use Rattle.records.specs.Record.{Field, Rec, rec, rowKind, projectKind, startKind, legKind, closeKind}
+use Rattle.records.specs.Record.{Field, Rec, rec, rowKind, projectKind, startKind, legKind}
+use Rattle.records.specs.Record.{closeKind}
 use Rattle.records.specs.Record.{kindFields, table, inRanges, goodOf}
 use Rattle.tape.specs.Tape.{isLeg, start, recordsOf}
 use Rattle.tape.specs.Fields.{Fields, numberAt, pick, none, only, turns, angleOf, distanceOf}

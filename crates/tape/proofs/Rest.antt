@@ -129,6 +129,7 @@ module _ (tape : List ℕ) (at : ℕ) (r : Rec) (rs : List Rec) (h : Rest tape a
   -- and one without a sign
   pub number-there : (k i p : ℕ) → r .kind ≡ k → i < length (kindFields k)
       → fieldAt (kindFields k) i .coding ≡ unsigned
-      → p ≡ at + 1 + offset (kindFields k) i → numberAt r i ≡ num (fieldAt (kindFields k) i .width) tape p
+      → p ≡ at + 1 + offset (kindFields k) i
+      → numberAt r i ≡ num (fieldAt (kindFields k) i .width) tape p
   unfolding meant
   number-there k i p kind low c e = rw (value-there k i p kind low e, c)

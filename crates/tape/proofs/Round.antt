@@ -12,7 +12,8 @@ use lib.Seq.{drop-cons, drop-drop, take-add}
 use borrow.Author.Tests.{lt-ltb}
 use Rattle.records.specs.Bytes.{Width, two, four, size, num, bytes, Coding, unsigned}
 use Rattle.records.specs.Bytes.{twosComplement, room, meant, written}
-use Rattle.records.specs.Record.{Field, kindFields, total, numbers, spell, bodyOf, bytesOf, numbersOf}
+use Rattle.records.specs.Record.{Field, kindFields, total, numbers, spell, bodyOf, bytesOf}
+use Rattle.records.specs.Record.{numbersOf}
 use Rattle.tape.specs.Tape.{Step, Next, Stop, walk, stepOf, judge, onStep, start, readingOf}
 use Rattle.tape.specs.Tape.{recordsFrom, recordsOf, tapeOf, runOf, fieldsRead}
 use Rattle.tape.specs.Fields.{AllBytes}
@@ -47,7 +48,8 @@ unfolding num bytes
 bytes-num two l k b h =
     let p = b k in
     let q = b (suc k) in
-    (omega arith, front l k 1 (omega arith) (omega arith) (front l (suc k) 0 (omega arith) (omega arith) refl))
+    (omega arith, front l k 1 (omega arith) (omega arith)
+    (front l (suc k) 0 (omega arith) (omega arith) refl))
 bytes-num four l k b h =
     let p = b k in
     let q = b (suc k) in
@@ -55,7 +57,8 @@ bytes-num four l k b h =
     let s = b (suc (suc (suc k))) in (
       omega arith,
       front l k 3 (omega arith) (omega arith) (front l (suc k) 2 (omega arith) (omega arith)
-          (front l (suc (suc k)) 1 (omega arith) (omega arith) (front l (suc (suc (suc k))) 0 (omega arith) (omega arith) refl))),
+          (front l (suc (suc k)) 1 (omega arith) (omega arith)
+          (front l (suc (suc (suc k))) 0 (omega arith) (omega arith) refl))),
     )
 
 -- ---- a record
@@ -102,7 +105,8 @@ again-from st at zero (x ∷ l) a e =
     let w = reads-next (stepOf st (x ∷ l)) at _ a e in
     let t = taken-whole st (w .0) x l (w .1) in
     let i = again-from (w .0) (at + 1 + bodyOf x) (bodyOf x) l a (w .2) in
-    (λ b. rw (record-bytes x l b (t .0), i .0 (λ j. b (suc j)), take-append-drop (bodyOf x) l), rw (← t .1) (i .1))
+    (λ b. rw (record-bytes x l b (t .0), i .0 (λ j. b (suc j)), take-append-drop (bodyOf x) l),
+    rw (← t .1) (i .1))
 
 -- a tape that reads, written again from its fields, is the same bytes
 pub same-bytes : (l : List ℕ) (a : State) → AllBytes l → readingOf l ≡ Reads a

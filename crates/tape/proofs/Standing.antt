@@ -27,7 +27,8 @@ use Rattle.tape.specs.declared.Taken.the-variants as taken
 use Rattle.tape.proofs.Coming as by
 use Rattle.tape.proofs.Coming.{Came, came}
 use Rattle.tape.proofs.Ordered.{ordered, order-of, no-rows}
-use Rattle.tape.proofs.Picks.{pick-yes, pick-no, apart-leg, skips, place-on, place-here, place-skips, only-first}
+use Rattle.tape.proofs.Picks.{pick-yes, pick-no, apart-leg, skips, place-on, place-here}
+use Rattle.tape.proofs.Picks.{place-skips, only-first}
 use Rattle.tape.proofs.Rest.{offset, fieldAt, whole-there, rest-start, rest-next, last-there}
 use Rattle.tape.proofs.Rest.{value-there, number-there}
 use Rattle.tape.proofs.Round.{lawful}

@@ -64,7 +64,8 @@ pub step-whole : (st st′ : State) (l : List ℕ) → Next st′ ≡ stepOf st 
     → bodyOf (getD l 0 0) < length l
 unfolding stepOf
 step-whole st st′ l e =
-    let k = getD l 0 0 in ltb-true _ _ (passed st st′ k (ltb (bodyOf k) (length l)) (numbersOf k l) e .whole)
+    let k = getD l 0 0 in
+        ltb-true _ _ (passed st st′ k (ltb (bodyOf k) (length l)) (numbersOf k l) e .whole)
 
 module _ (s : List ℕ) (st : State) (at : ℕ) where
   -- the walk at a place within the tape
@@ -82,7 +83,8 @@ module _ (s : List ℕ) (st : State) (at : ℕ) where
   pub next-whole : (r : Step) (n : ℕ) (st′ : State) → r ≡ Next st′ → r ≡ stepOf st (drop at s)
       → n ≡ bodyOf (getD s at 0) → at + 1 + n ≤ length s
   next-whole r n st′ o e b =
-      let h : n < length (drop at s) = rw (b, ← head-drop at s) (step-whole st st′ (drop at s) (sym o ∙ e)) in
+      let h : n < length (drop at s) =
+          rw (b, ← head-drop at s) (step-whole st st′ (drop at s) (sym o ∙ e)) in
       omega (arith, length-drop at s)
 
   pub walk-next : (r : Step) (n : ℕ) (st′ : State) (w : Reading) → r ≡ Next st′
@@ -90,8 +92,10 @@ module _ (s : List ℕ) (st : State) (at : ℕ) where
       → at < length s → walk st at 0 (drop at s) ≡ w
       → walk st′ (at + 1 + n) 0 (drop (at + 1 + n) s) ≡ w
   walk-next r n st′ w o e b low h =
-      let f : n ≤ length (drop (suc at) s) = omega (arith, length-drop (suc at) s, next-whole r n st′ o e b) in
-      let g : walk st′ (suc at + n) n (drop (suc at) s) ≡ w = rw (at-front low, ← e, o, ← b, add-one) at h in
+      let f : n ≤ length (drop (suc at) s) =
+          omega (arith, length-drop (suc at) s, next-whole r n st′ o e b) in
+      let g : walk st′ (suc at + n) n (drop (suc at) s) ≡ w =
+          rw (at-front low, ← e, o, ← b, add-one) at h in
       rw (add-one, ← drop-drop n (suc at) s, ← walk-skip st′ (suc at + n) n (drop (suc at) s) f) g
 
   at-end : length s ≤ at

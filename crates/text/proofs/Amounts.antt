@@ -1,4 +1,5 @@
--- An amount is put as its sign and the text after it: the sign by the code's own test, and whole ones and decimals by the unit that the code divides by.
+-- An amount is put as its sign and the text after it: the sign by the code's own test, and whole
+-- ones and decimals by the unit that the code divides by.
 use Prim.Native.Nat.{ℕ, _/_, _^_, _<_}
 use native.Mathlib.Omega.{arith}
 use native.Mathlib.Nat.{one-le-pow}
@@ -35,11 +36,15 @@ module _ (l plus : List ℕ) (at : ℕ) (z : ℤ) where
       plus-put t p = rw (← e, t) p
 
   -- ---- and the rest, s being the size
-  module _ (d unit s : ℕ) (e : unit ≡ 10 ^ d) (f : s ≡ natAbs z) (m : List ℕ) (i : ℕ) (p : Put l at (sign plus z) m i) where
-    pub size-room : Room l at (amount plus d z) → Room m i (decimal (s / unit) ++ ascii "." ++ digits d s)
+  module _ (d unit s : ℕ) (e : unit ≡ 10 ^ d) (f : s ≡ natAbs z) (m : List ℕ) (i : ℕ)
+      (p : Put l at (sign plus z) m i) where
+    pub size-room : Room l at (amount plus d z)
+        → Room m i (decimal (s / unit) ++ ascii "." ++ digits d s)
     unfolding amount pointed
     size-room h = rw (e, f) (room-then l at (sign plus z) (pointed d (natAbs z)) m i p h)
 
-    pub amount-put : (n : List ℕ) (r : ℕ) → Put m i (decimal (s / unit) ++ ascii "." ++ digits d s) n r → Put l at (amount plus d z) n r
+    pub amount-put : (n : List ℕ) (r : ℕ)
+        → Put m i (decimal (s / unit) ++ ascii "." ++ digits d s) n r
+        → Put l at (amount plus d z) n r
     unfolding amount pointed
     amount-put n r q = then l at (sign plus z) (pointed d (natAbs z)) m i p n r (rw (e, f) at q)

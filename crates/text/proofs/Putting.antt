@@ -1,4 +1,5 @@
--- Texts put one after the other are their join put at the place of the first, and there is room for each where there is room for the join.
+-- Texts put one after the other are their join put at the place of the first, and there is room for
+-- each where there is room for the join.
 use Prim.Native.Nat.{ℕ, suc, _+_, _≤_, _<_}
 use native.Mathlib.Omega.{arith}
 use native.Mathlib.Nat.{zero-add}
@@ -11,14 +12,17 @@ use Rattle.text.specs.Room.{Room, Put}
 
 sets-then : (xs ys l : List ℕ) (i : ℕ) → sets (sets l i xs) (i + length xs) ys ≡ sets l i (xs ++ ys)
 sets-then [] ys l i = let e : i + 0 ≡ i = omega arith in rw e
-sets-then (x ∷ xs) ys l i = let e : i + suc (length xs) ≡ suc i + length xs = omega arith in rw e (sets-then xs ys (set l i x) (suc i))
+sets-then (x ∷ xs) ys l i = let e : i + suc (length xs) ≡ suc i + length xs = omega arith in
+    rw e (sets-then xs ys (set l i x) (suc i))
 
 -- the last one stored first
-pub sets-last : (xs l : List ℕ) (y i : ℕ) → sets l i (xs ++ (y ∷ [])) ≡ sets (set l (i + length xs) y) i xs
+pub sets-last : (xs l : List ℕ) (y i : ℕ)
+    → sets l i (xs ++ (y ∷ [])) ≡ sets (set l (i + length xs) y) i xs
 sets-last [] l y i = let e : i + 0 ≡ i = omega arith in rw e
 sets-last (x ∷ xs) l y i =
     let e : i + suc (length xs) ≡ suc i + length xs = omega arith in
-    rw (sets-last xs (set l i x) y (suc i), e, set-comm l i (suc i + length xs) x y (λ f. omega arith))
+    rw (sets-last xs (set l i x) y (suc i), e,
+    set-comm l i (suc i + length xs) x y (λ f. omega arith))
 
 -- ---- one text after another
 module _ (l : List ℕ) (at : ℕ) (xs ys : List ℕ) where
@@ -30,7 +34,8 @@ module _ (l : List ℕ) (at : ℕ) (xs ys : List ℕ) where
     room-then h = rw (p .bytes, length-sets l at xs) (omega (arith, length-append xs ys, p .next))
 
     pub then : (n : List ℕ) (r : ℕ) → Put m i ys n r → Put l at (xs ++ ys) n r
-    then n r q = record { bytes = q .bytes ∙ rw (p .bytes, p .next) (sets-then xs ys l at); next = q .next ∙ omega (arith, length-append xs ys, p .next) }
+    then n r q = record { bytes = q .bytes ∙ rw (p .bytes, p .next) (sets-then xs ys l at);
+        next = q .next ∙ omega (arith, length-append xs ys, p .next) }
 
 -- ---- each of three texts, where there is room for all
 module _ (l : List ℕ) (at : ℕ) (a b c : List ℕ) (h : Room l at (a ++ b ++ c)) where
@@ -54,10 +59,13 @@ module _ (l t m : List ℕ) (r : ℕ) (p : Put l 0 t m r) where
 
 -- ---- a text copied byte by byte
 module _ (l t : List ℕ) (at k : ℕ) where
-  pub copy-next : (m : List ℕ) → m ≡ sets l at (take k t) → k < length t → set m (at + k) (getD t k 0) ≡ sets l at (take (k + 1) t)
+  pub copy-next : (m : List ℕ) → m ≡ sets l at (take k t) → k < length t
+      → set m (at + k) (getD t k 0) ≡ sets l at (take (k + 1) t)
   copy-next m e h =
       let n : length (take k t) ≡ k = omega (arith, length-take k t) in
       rw (add-one k, take-suc t k 0 h, ← sets-then (take k t) (getD t k 0 ∷ []) l at, n, e)
 
-  pub copy-last : (m : List ℕ) → m ≡ sets l at (take k t) → k ≤ length t → length t ≤ k → Put l at t m (at + k)
-  copy-last m e h i = let j : k ≡ length t = omega arith in record { bytes = e ∙ ap (sets l at) (take-all k t i); next = ap (λ (n : ℕ). at + n) j }
+  pub copy-last : (m : List ℕ) → m ≡ sets l at (take k t) → k ≤ length t → length t ≤ k
+      → Put l at t m (at + k)
+  copy-last m e h i = let j : k ≡ length t = omega arith in
+      record { bytes = e ∙ ap (sets l at) (take-all k t i); next = ap (λ (n : ℕ). at + n) j }

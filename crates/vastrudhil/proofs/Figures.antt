@@ -1,4 +1,5 @@
--- The figures of a traverse: those of each case, that they fit the caller's words, and that storing them one after the other stores them all.
+-- The figures of a traverse: those of each case, that they fit the caller's words, and that storing
+-- them one after the other stores them all.
 use Prim.Native.Nat.{ℕ, zero, suc, _+_, _^_, _≤_, _<_}
 use native.Mathlib.Omega.{arith}
 use native.Mathlib.Numerals.{add-one}
@@ -20,7 +21,8 @@ use Rattle.desk.proofs.Accepted.{accepted, accepted-sized}
 use Rattle.vastrudhil.specs.Face.{TellsTraverse, figuresOf, values}
 
 -- ---- of a refusal, and of an adjusted traverse
-pub refused-figures : (a : Answer) (n p : ℕ) → a ≡ Refused n p → pos 0 ∷ pos 0 ∷ pos 0 ∷ pos 0 ∷ pos 0 ∷ pos 0 ∷ pos 0 ∷ [] ≡ figuresOf (toldTraverse a)
+pub refused-figures : (a : Answer) (n p : ℕ) → a ≡ Refused n p
+    → pos 0 ∷ pos 0 ∷ pos 0 ∷ pos 0 ∷ pos 0 ∷ pos 0 ∷ pos 0 ∷ [] ≡ figuresOf (toldTraverse a)
 unfolding figuresOf
 refused-figures a n p e = rw e
 
@@ -31,24 +33,33 @@ module _ (a : Answer) (f : Figures) (is : a ≡ Adjusted f) where
   pub precision-fits : toldTraverse a .precision < 2 ^ 63 → f .precision < 2 ^ 63
   precision-fits h = rw is at h
 
-  pub adjusted-figures : (x y z : Whole) → x .v ≡ pos (f .legs) → y .v ≡ pos (f .precision) → z .v ≡ passes (f .looped)
-      → values (x ∷ f .w ∷ f .«north_closure» ∷ f .«east_closure» ∷ y ∷ f .area ∷ z ∷ []) ≡ figuresOf (toldTraverse a)
+  pub adjusted-figures : (x y z : Whole) → x .v ≡ pos (f .legs) → y .v ≡ pos (f .precision)
+      → z .v ≡ passes (f .looped)
+      → values (x ∷ f .w ∷ f .«north_closure» ∷ f .«east_closure» ∷ y ∷ f .area ∷ z ∷ []) ≡
+      figuresOf (toldTraverse a)
   unfolding figuresOf values
   adjusted-figures x y z g h i = rw (is, g, h, i)
 
 -- ---- they fit
-sized : (e : ℕ → ℤ) → Entries e → (tape : List ℕ) (room : ℕ) (a : Answer) → toldTraverse a ≡ traversedBy e tape room → (toldTraverse a .legs ≤ 64) × (toldTraverse a .precision ≤ 1300000000)
+sized : (e : ℕ → ℤ) → Entries e → (tape : List ℕ) (room : ℕ) (a : Answer)
+    → toldTraverse a ≡ traversedBy e tape room
+    → (toldTraverse a .legs ≤ 64) × (toldTraverse a .precision ≤ 1300000000)
 sized e entries tape room (Refused n p) h = (omega arith, omega arith)
 sized e entries tape room (Adjusted f) h =
-    let s = accepted-sized e tape room entries (accepted e tape room (ap (λ (t : ToldTraverse). t .number) (sym h))) in
-    (omega (arith, ap (λ (t : ToldTraverse). t .legs) h, s .legs), omega (arith, ap (λ (t : ToldTraverse). t .precision) h, s .precision))
+    let s = accepted-sized e tape room entries
+        (accepted e tape room (ap (λ (t : ToldTraverse). t .number) (sym h))) in
+    (omega (arith, ap (λ (t : ToldTraverse). t .legs) h, s .legs),
+        omega (arith, ap (λ (t : ToldTraverse). t .precision) h, s .precision))
 
 module _ (tape : List ℕ) (room : ℕ) (a : Answer) where
-  pub own-fits : toldTraverse a ≡ traversedBy entry tape room → (toldTraverse a .legs < 2 ^ 63) × (toldTraverse a .precision < 2 ^ 63)
+  pub own-fits : toldTraverse a ≡ traversedBy entry tape room
+      → (toldTraverse a .legs < 2 ^ 63) × (toldTraverse a .precision < 2 ^ 63)
   own-fits h = let s = sized entry rule-entries tape room a h in (omega arith, omega arith)
 
-  pub lent-fits : (t : List ℕ) → toldTraverse a ≡ traversedBy (entryIn t) tape room → (toldTraverse a .legs < 2 ^ 63) × (toldTraverse a .precision < 2 ^ 63)
-  lent-fits t h = let s = sized (entryIn t) (lent-entries t) tape room a h in (omega arith, omega arith)
+  pub lent-fits : (t : List ℕ) → toldTraverse a ≡ traversedBy (entryIn t) tape room
+      → (toldTraverse a .legs < 2 ^ 63) × (toldTraverse a .precision < 2 ^ 63)
+  lent-fits t h = let s =
+      sized (entryIn t) (lent-entries t) tape room a h in (omega arith, omega arith)
 
 -- ---- stored one after the other
 abbrev none : Whole
@@ -69,15 +80,22 @@ pub stored-length : (k : ℕ) (l m : List ℤ) (z : ℤ) → length l ≡ 7 → 
 stored-length k l m z r f = rw (f, length-set l k z) r
 
 module _ (all : List Whole) (room : length all ≡ 7) where
-  pub stored-next : (k : ℕ) (l m : List ℤ) → k < 7 → length l ≡ 7 → take k l ≡ take k (values all) → m ≡ set l k (getD all k none .v) → take (k + 1) m ≡ take (k + 1) (values all)
+  pub stored-next : (k : ℕ) (l m : List ℤ) → k < 7 → length l ≡ 7 → take k l ≡ take k (values all)
+      → m ≡ set l k (getD all k none .v) → take (k + 1) m ≡ take (k + 1) (values all)
   stored-next k l m h r e f =
-      rw (f, add-one k, take-suc-set l k (getD all k none .v) (omega arith), take-suc (values all) k (pos 0) (omega (arith, values-length all)), values-at all k (omega arith), e)
+      rw (f, add-one k, take-suc-set l k (getD all k none .v) (omega arith),
+      take-suc (values all) k (pos 0) (omega (arith, values-length all)),
+      values-at all k (omega arith), e)
 
-  pub stored-all : (k : ℕ) (l : List ℤ) → 7 ≤ k → length l ≡ 7 → take k l ≡ take k (values all) → l ≡ values all
-  stored-all k l h r e = sym (take-all k l (omega arith)) ∙ e ∙ take-all k (values all) (omega (arith, values-length all))
+  pub stored-all : (k : ℕ) (l : List ℤ) → 7 ≤ k → length l ≡ 7 → take k l ≡ take k (values all)
+      → l ≡ values all
+  stored-all k l h r e =
+      sym (take-all k l (omega arith)) ∙ e ∙ take-all k (values all)
+      (omega (arith, values-length all))
 
 -- ---- and told
-module _ (a : Answer) (all : List Whole) (l : List ℤ) (is : values all ≡ figuresOf (toldTraverse a)) (stored : l ≡ values all) where
+module _ (a : Answer) (all : List Whole) (l : List ℤ) (is : values all ≡ figuresOf (toldTraverse a))
+    (stored : l ≡ values all) where
   pub tells-refused : (n p : ℕ) → a ≡ Refused n p → TellsTraverse (toldTraverse a) p l n
   tells-refused n p e = record { number = rw e; place = rw e; figures = stored ∙ is }
 

@@ -13,7 +13,8 @@ use Rattle.minutes.proofs.Single as minutes
 use Rattle.records.specs.declared.Record.{Record}
 use Rattle.tape.specs.Tape.{ToldReading}
 use Rattle.desk.specs.Answer.{traversedBy, traversedWordsBy}
-use Rattle.vastrudhil.specs.Face.{TellsAmount, TellsCount, TellsVerdict, WritesRecord, TellsReading, TellsTraverse, ShowsSheet}
+use Rattle.vastrudhil.specs.Face.{TellsAmount, TellsCount, TellsVerdict, WritesRecord}
+use Rattle.vastrudhil.specs.Face.{TellsReading, TellsTraverse, ShowsSheet}
 
 -- ---- every arithmetic step, by what is stored of it
 module _ (t : ToldStep) (m n : ℕ) where
@@ -38,12 +39,14 @@ table-single = minutes.table-single
 
 -- ---- the writers: `vas_write_row`, `vas_write_project`, `vas_write_start`, `vas_write_leg` and
 -- `vas_write_close`
-pub write-single : (given : Record) (out : List ℕ) (at : ℕ) (l m : List ℕ) (p q n p′ q′ n′ : ℕ) → WritesRecord given out at l p q n → WritesRecord given out at m p′ q′ n′
+pub write-single : (given : Record) (out : List ℕ) (at : ℕ) (l m : List ℕ) (p q n p′ q′ n′ : ℕ)
+    → WritesRecord given out at l p q n → WritesRecord given out at m p′ q′ n′
     → (n ≡ n′) × (p ≡ p′) × (q ≡ q′) × (l ≡ m)
 write-single given out at l m p q n p′ q′ n′ x y =
     let s = x .tells in
     let t = y .tells in
-    (s .number ∙ sym (t .number), s .place ∙ sym (t .place), s .next ∙ sym (t .next), x .left ∙ sym (y .left))
+    (s .number ∙ sym (t .number), s .place ∙ sym (t .place), s .next ∙ sym (t .next),
+    x .left ∙ sym (y .left))
 
 -- ---- the reading, the traverse and the sheet, the last two by any table of sines
 -- `vas_read`
@@ -61,9 +64,11 @@ traverse-single e tape words a b k l p n q m x f y g =
     (x .number ∙ sym (y .number), x .place ∙ sym (y .place), figures, f ∙ sym g)
 
 -- `vas_sheet` and `vas_sheet_in`
-pub sheet-single : (e : ℕ → ℤ) (tape out l m : List ℕ) (p q n p′ q′ n′ : ℕ) → ShowsSheet e tape out l p q n → ShowsSheet e tape out m p′ q′ n′
+pub sheet-single : (e : ℕ → ℤ) (tape out l m : List ℕ) (p q n p′ q′ n′ : ℕ)
+    → ShowsSheet e tape out l p q n → ShowsSheet e tape out m p′ q′ n′
     → (n ≡ n′) × (p ≡ p′) × (q ≡ q′) × (l ≡ m)
 sheet-single e tape out l m p q n p′ q′ n′ x y =
     let s = x .tells in
     let t = y .tells in
-    (s .number ∙ sym (t .number), s .place ∙ sym (t .place), s .used ∙ sym (t .used), x .left ∙ sym (y .left))
+    (s .number ∙ sym (t .number), s .place ∙ sym (t .place), s .used ∙ sym (t .used),
+    x .left ∙ sym (y .left))

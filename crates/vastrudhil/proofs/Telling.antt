@@ -1,4 +1,5 @@
--- What is told of each case of an answer; and what is told of an answer is told of whatever its promise says that it tells.
+-- What is told of each case of an answer; and what is told of an answer is told of whatever its
+-- promise says that it tells.
 use Prim.Native.Nat.{ℕ}
 use mathlib.Core.Path.{_≡_, refl, _∙_, ap}
 use mathlib.Core.Bool.{Bool, true, false}
@@ -24,10 +25,13 @@ use Rattle.writer.specs.Write.{Wrote, toldWritten}
 use Rattle.desk.specs.Answer.{ToldTraverse}
 use Rattle.desk.specs.declared.Page.{Page}
 use Rattle.desk.specs.Sheet.{Showed, toldSheet}
-use Rattle.vastrudhil.specs.Face.{TellsAmount, TellsCount, TellsVerdict, TellsWritten, WritesRecord, TellsReading, TellsTraverse, TellsPage, ShowsSheet}
+use Rattle.vastrudhil.specs.Face.{TellsAmount, TellsCount, TellsVerdict, TellsWritten}
+use Rattle.vastrudhil.specs.Face.{WritesRecord, TellsReading, TellsTraverse, TellsPage}
+use Rattle.vastrudhil.specs.Face.{ShowsSheet}
 
 -- ---- the cases
-pub amount-is : (a : Amount) (z : Whole) (v : ℤ) → a ≡ amount.Is z → v ≡ z .v → TellsAmount (toldAmount a) v 0
+pub amount-is : (a : Amount) (z : Whole) (v : ℤ) → a ≡ amount.Is z → v ≡ z .v
+    → TellsAmount (toldAmount a) v 0
 unfolding toldAmount
 amount-is a z v e f = rw e (record { number = refl; value = f })
 
@@ -76,17 +80,21 @@ reading-as tape a p n e h =
       place = h .place ∙ ap (λ (x : Taken). toldTaken x .place) e ∙ t .1;
     }
 
-pub traverse-as : (s t : ToldTraverse) (p : ℕ) (l : List ℤ) (n : ℕ) → TellsTraverse s p l n → s ≡ t → TellsTraverse t p l n
+pub traverse-as : (s t : ToldTraverse) (p : ℕ) (l : List ℤ) (n : ℕ) → TellsTraverse s p l n → s ≡ t
+    → TellsTraverse t p l n
 traverse-as s t p l n h e = rw (← e) h
 
-pub writes-as : (given : Record) (out : List ℕ) (at : ℕ) (out′ : List ℕ) (a : Written) (p q n : ℕ) → Wrote out out′ at (goodRecord given) (bytesOfRecord given) a
+pub writes-as : (given : Record) (out : List ℕ) (at : ℕ) (out′ : List ℕ) (a : Written) (p q n : ℕ)
+    → Wrote out out′ at (goodRecord given) (bytesOfRecord given) a
     → TellsWritten (toldWritten a) p q n → WritesRecord given out at out′ p q n
 writes-as given out at out′ a p q n w h = record { tells = rw (← w .tells) h; left = w .left }
 
 -- a project whose elevation came as a caller's number
-pub project-as : {latitude : ℕ} {x y : ℤ} {out : List ℕ} {at : ℕ} {out′ : List ℕ} {p q n : ℕ} → x ≡ y → WritesRecord (Project latitude (record { v = x })) out at out′ p q n
+pub project-as : {latitude : ℕ} {x y : ℤ} {out : List ℕ} {at : ℕ} {out′ : List ℕ} {p q n : ℕ}
+    → x ≡ y → WritesRecord (Project latitude (record { v = x })) out at out′ p q n
     → WritesRecord (Project latitude (record { v = y })) out at out′ p q n
 project-as e h = rw (← e) h
 
-pub shows-as : (e : ℕ → ℤ) (tape out out′ : List ℕ) (a : Page) (p q n : ℕ) → Showed e tape out out′ a → TellsPage (toldSheet a) p q n → ShowsSheet e tape out out′ p q n
+pub shows-as : (e : ℕ → ℤ) (tape out out′ : List ℕ) (a : Page) (p q n : ℕ)
+    → Showed e tape out out′ a → TellsPage (toldSheet a) p q n → ShowsSheet e tape out out′ p q n
 shows-as e tape out out′ a p q n s h = record { tells = rw (← s .tells) h; left = s .left }

@@ -1,5 +1,5 @@
--- A choice by a test, from the fact that the code's test tells. `search branch` and `search told` apply these backwards, and so go from the branches
--- of the code to those of a definition.
+-- A choice by a test, from the fact that the code's test tells. `search branch` and `search told`
+-- apply these backwards, and so go from the branches of the code to those of a definition.
 use Prim.{Unit, ⊥}
 use Prim.Native.Nat.{ℕ, zero, suc, _≤_, _<_}
 use mathlib.Core.Path.{_≡_, refl}
@@ -72,7 +72,8 @@ pub ruleset told = (told-eq, told-ne, told-lt, told-ge, told-yes, told-no)
 pub ruleset branch = (cond-eq, cond-no, cond-ne, cond-lt, cond-ge, cond-le, cond-gt)
 
 -- ---- a choice has P if each branch has it, where the test came out for that branch
-pub by-test : {A : Type 0} (P : A → Type 0) {x y : A} (b : Bool) → (b ≡ true → P x) → (b ≡ false → P y) → P (cond b x y)
+pub by-test : {A : Type 0} (P : A → Type 0) {x y : A} (b : Bool) → (b ≡ true → P x)
+    → (b ≡ false → P y) → P (cond b x y)
 by-test P true f g = f refl
 by-test P false f g = g refl
 
@@ -91,7 +92,8 @@ pub left : (p : Bool) (n : ℕ) → 0 < n → cond p 0 n ≡ 0 → p ≡ true
 left true n h e = refl
 left false n h e = absurd (omega arith)
 
--- ---- what the last arm of a match knows: a number that is none of the keys below n is past them all
+-- ---- what the last arm of a match knows: a number that is none of the keys below n is past them
+-- all
 abbrev Missed : ℕ → ℕ → Type 0
 Missed zero k = Unit
 Missed (suc n) k = Missed n k × (k ≡ n → ⊥)

@@ -1,4 +1,5 @@
--- The laws of ℤ's ring, order and size that the kit leaves out, by names that `rw` and `search` can cite. Assumes nothing.
+-- The laws of ℤ's ring, order and size that the kit leaves out, by names that `rw` and `search` can
+-- cite. Assumes nothing.
 use mathlib.Core.Path.{_≡_, refl, sym, _∙_, ap}
 use mathlib.Core.List.{[], _∷_}
 use Prim.Native.Nat.{ℕ, zero, suc, _+_, _*_, _≤_, _<_}
@@ -50,7 +51,8 @@ pub sub-nonneg : {a b : ℤ} → a ≤ᶻ b → pos 0 ≤ᶻ b -ℤ a
 sub-nonneg {a} {b} h = let v = vars (a ∷ b ∷ []) in under (search ints) (omega int)
 
 pub nonneg-sub : {a b : ℤ} → pos 0 ≤ᶻ b -ℤ a → a ≤ᶻ b
-nonneg-sub {a} {b} h = let v = vars (a ∷ b ∷ []) in under (search ints) (omega (arith, le h (search ints)))
+nonneg-sub {a} {b} h = let v = vars (a ∷ b ∷ []) in
+    under (search ints) (omega (arith, le h (search ints)))
 
 pub mul-nonneg : {a b : ℤ} → pos 0 ≤ᶻ a → pos 0 ≤ᶻ b → pos 0 ≤ᶻ a *ℤ b
 mul-nonneg {a = pos m} {b = pos n} h k = omega int
@@ -90,7 +92,8 @@ abs-parts (pos n) = omega arith
 abs-parts (negsuc n) = omega arith
 
 pub triangle : (x y : ℤ) → natAbs (x +ℤ y) ≤ natAbs x + natAbs y
-triangle x y = let v = vars (x ∷ y ∷ []) in abs-under (x +ℤ y) (search ints) (omega (arith, abs-parts x, abs-parts y))
+triangle x y = let v = vars (x ∷ y ∷ []) in
+    abs-under (x +ℤ y) (search ints) (omega (arith, abs-parts x, abs-parts y))
 
 pub triangle-sub : (x y : ℤ) → natAbs (x -ℤ y) ≤ natAbs x + natAbs y
 triangle-sub x y = omega (arith, triangle x (negℤ y), abs-neg y)

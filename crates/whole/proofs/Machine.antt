@@ -1,5 +1,6 @@
--- What the needs of signed code ask, said of the integers themselves. A signed value passes through its bits, so a need speaks of `back z` where the
--- code says z; below 2 ^ 63 in size that is z again, for every operation and test alike. Assumes nothing.
+-- What the needs of signed code ask, said of the integers themselves. A signed value passes through
+-- its bits, so a need speaks of `back z` where the code says z; below 2 ^ 63 in size that is z
+-- again, for every operation and test alike. Assumes nothing.
 use mathlib.Core.Path.{_≡_, refl, sym, _∙_, subst}
 use mathlib.Core.Bool.{true, false, _&&_, and-true}
 use Prim.Native.Nat.{ℕ, zero, suc, _+_, _-_, _*_, _^_, _≤_, _<_}
@@ -26,8 +27,10 @@ sfits (negsuc n) h = record { sfits = omega arith }
 pub back-is : (z : ℤ) → natAbs z < 2 ^ 63 → back z ≡ z
 back-is z h = toZ-ofZ (sfits z h)
 
--- ---- an operation whose result is small enough fits, and is the operation on ℤ. `search` finds the operands in the need
-module _ (op : ℤ → ℤ → ℤ) (x y : ℤ) (hx : natAbs x < 2 ^ 63) (hy : natAbs y < 2 ^ 63) (h : natAbs (op x y) < 2 ^ 63) where
+-- ---- an operation whose result is small enough fits, and is the operation on ℤ. `search` finds
+-- the operands in the need
+module _ (op : ℤ → ℤ → ℤ) (x y : ℤ) (hx : natAbs x < 2 ^ 63) (hy : natAbs y < 2 ^ 63)
+    (h : natAbs (op x y) < 2 ^ 63) where
   op-fits : SFits w64 (op (back x) (back y))
   op-fits = rw (back-is x hx, back-is y hy) (sfits (op x y) h)
 
@@ -35,7 +38,8 @@ module _ (op : ℤ → ℤ → ℤ) (x y : ℤ) (hx : natAbs x < 2 ^ 63) (hy : n
   op-is = rw (back-is x hx, back-is y hy) (back-is (op x y) h)
 
 -- the sum and the difference, whose size is at most the sizes' sum
-module _ (op : ℤ → ℤ → ℤ) (near : (x y : ℤ) → natAbs (op x y) ≤ natAbs x + natAbs y) (x y : ℤ) (hx : natAbs x < 2 ^ 62) (hy : natAbs y < 2 ^ 62) where
+module _ (op : ℤ → ℤ → ℤ) (near : (x y : ℤ) → natAbs (op x y) ≤ natAbs x + natAbs y) (x y : ℤ)
+    (hx : natAbs x < 2 ^ 62) (hy : natAbs y < 2 ^ 62) where
   abbrev small : natAbs (op x y) < 2 ^ 63
   small = omega (arith, near x y)
 
@@ -51,7 +55,8 @@ module _ (op : ℤ → ℤ → ℤ) (near : (x y : ℤ) → natAbs (op x y) ≤ 
 -- the product
 abs-mul-lt : (x y : ℤ) {j k : ℕ} → natAbs x < j → natAbs y < k → natAbs (x *ℤ y) < j * k
 abs-mul-lt x y {j} {k} h i =
-    rw (abs-mul x y) (lt-of-le-of-lt (mul-le-mul-left (natAbs x) (le-of-lt i)) (mul-lt-mul-of-pos-right h (omega arith)))
+    rw (abs-mul x y) (lt-of-le-of-lt (mul-le-mul-left (natAbs x) (le-of-lt i))
+    (mul-lt-mul-of-pos-right h (omega arith)))
 
 module _ (x y : ℤ) (hx : natAbs x < 2 ^ 34) (hy : natAbs y < 2 ^ 28) where
   abbrev product-small : natAbs (x *ℤ y) < 2 ^ 62
@@ -86,21 +91,24 @@ sign-above (pos n) e = (n, refl)
 sign-above (negsuc n) e = absurd (subst T e tt)
 
 -- a range -low..high, which the code tests on the size by the sign
-pub range-below : (z : ℤ) (n low high : ℕ) → n ≡ natAbs z → ltZ z (pos 0) ≡ true → leb n low ≡ (leZ (negℤ (pos low)) z && leZ z (pos high))
+pub range-below : (z : ℤ) (n low high : ℕ) → n ≡ natAbs z → ltZ z (pos 0) ≡ true
+    → leb n low ≡ (leZ (negℤ (pos low)) z && leZ z (pos high))
 range-below z n low high f e = let s = sign-below z e in rw (f, s .1) (go low (s .0))
   where
     go : (low n : ℕ) → leb (suc n) low ≡ (leZ (negℤ (pos low)) (negsuc n) && true)
     go zero n = leb·suc-zero n
     go (suc low) n = leb·suc-suc n low ∙ sym (and-true (leb n low))
 
-pub range-above : (z : ℤ) (n low high : ℕ) → n ≡ natAbs z → ltZ z (pos 0) ≡ false → leb n high ≡ (leZ (negℤ (pos low)) z && leZ z (pos high))
+pub range-above : (z : ℤ) (n low high : ℕ) → n ≡ natAbs z → ltZ z (pos 0) ≡ false
+    → leb n high ≡ (leZ (negℤ (pos low)) z && leZ z (pos high))
 range-above z n low high f e = let s = sign-above z e in rw (f, s .1) (go low (s .0))
   where
     go : (low n : ℕ) → leb n high ≡ (leZ (negℤ (pos low)) (pos n) && leb n high)
     go zero n = rw (leb·zero n)
     go (suc low) n = refl
 
--- ---- by the sign. Of an amount below zero the code takes one more, turns the sign, and adds the one again: so it does for the least i64 too
+-- ---- by the sign. Of an amount below zero the code takes one more, turns the sign, and adds the
+-- one again: so it does for the least i64 too
 back-all : (z : ℤ) → mag z < 2 ^ 63 → back z ≡ z
 back-all z m = toZ-ofZ (record { sfits = m })
 
@@ -119,7 +127,8 @@ module _ (z : ℤ) (m : mag z < 2 ^ 63) (e : ltZ (back z) (pos 0) ≡ true) wher
   one-more = rw (back-all z m) (rest-is .2)
 
   turned : pos 0 -ℤ back (back z +ℤ pos 1) ≡ pos rest
-  turned = rw (one-more, back-is (negℤ (pos rest)) (rw (abs-neg (pos rest)) (rest-is .1)), negℤ-negℤ (pos rest), +ℤ-idl (pos rest))
+  turned = rw (one-more, back-is (negℤ (pos rest)) (rw (abs-neg (pos rest)) (rest-is .1)),
+      negℤ-negℤ (pos rest), +ℤ-idl (pos rest))
 
   abbrev again : ℤ
   again = back (pos 0 -ℤ back (back z +ℤ pos 1))
@@ -142,7 +151,8 @@ module _ (z : ℤ) (m : mag z < 2 ^ 63) (e : ltZ (back z) (pos 0) ≡ true) wher
   pub below-size : natAbs again + 1 ≡ natAbs z
   below-size = rw again-is (sym (rest-is .0))
 
-pub above-cast : (z : ℤ) → mag z < 2 ^ 63 → ltZ (back z) (pos 0) ≡ false → T (nonNeg (back z)) × Fits w64 (natAbs (back z))
+pub above-cast : (z : ℤ) → mag z < 2 ^ 63 → ltZ (back z) (pos 0) ≡ false
+    → T (nonNeg (back z)) × Fits w64 (natAbs (back z))
 above-cast z m e =
     let s = sign-above z (subst (λ (y : ℤ). ltZ y (pos 0) ≡ false) (back-all z m) e) in
     let small = subst (λ (y : ℤ). mag y < 2 ^ 63) (s .1) m in

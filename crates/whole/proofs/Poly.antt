@@ -1,5 +1,6 @@
--- Polynomials with whole coefficients in a normal form, monomials sorted and like ones joined, and the proof that the form keeps the value.
--- This is the computation after proofs/Ring.antt; nothing else uses it. Assumes nothing.
+-- Polynomials with whole coefficients in a normal form, monomials sorted and like ones joined, and
+-- the proof that the form keeps the value. This is the computation after proofs/Ring.antt; nothing
+-- else uses it. Assumes nothing.
 use mathlib.Core.Path.{_≡_, refl, sym, _∙_, ap}
 use mathlib.Core.List.{List, [], _∷_}
 use mathlib.Core.Bool.{Bool, true, false, _&&_}
@@ -8,7 +9,8 @@ use native.Mathlib.Omega.{arith}
 use lib.Dec.{T, leb, ltb, eqb, eqb→eq}
 use lib.IntN.{ℤ, pos, negsuc, negℤ, _+ℤ_, _*ℤ_, +ℤ-idl, +ℤ-idr, +ℤ-assoc, zero-*ℤ, *ℤ-zero}
 use Rattle.whole.proofs.Diff.{ints, vars, same, up, dn, Is, is-add, is-mul}
-use Rattle.whole.proofs.Laws.{mul-assoc, mul-left-comm, one-mul, mul-one, add-left-comm, mul-add, add-mul}
+use Rattle.whole.proofs.Laws.{mul-assoc, mul-left-comm, one-mul, mul-one, add-left-comm}
+use Rattle.whole.proofs.Laws.{mul-add, add-mul}
 
 -- ---- expressions over the integers of a list, named by their places in it
 pub data Exp : Type 0 where
@@ -137,7 +139,8 @@ flip : (a : ℤ) → negsuc 0 *ℤ pos 1 *ℤ a ≡ negℤ a
 flip a = let v = vars (a ∷ []) in same (search ints) (omega arith)
 
 module _ (ρ : List ℤ) where
-  putm-ok : (b : Bool) (i j : ℕ) (n r : Mono) → evm ρ r ≡ look ρ i *ℤ evm ρ n → evm ρ (putm b i j n r) ≡ look ρ i *ℤ (look ρ j *ℤ evm ρ n)
+  putm-ok : (b : Bool) (i j : ℕ) (n r : Mono) → evm ρ r ≡ look ρ i *ℤ evm ρ n
+      → evm ρ (putm b i j n r) ≡ look ρ i *ℤ (look ρ j *ℤ evm ρ n)
   unfolding evm
   putm-ok true i j n r h = refl
   putm-ok false i j n r h = rw (h, mul-left-comm (look ρ j) (look ρ i) (evm ρ n))
@@ -150,44 +153,52 @@ module _ (ρ : List ℤ) where
   mulm-ok : (m n : Mono) → evm ρ (mulm m n) ≡ evm ρ m *ℤ evm ρ n
   unfolding evm
   mulm-ok one n = sym (one-mul (evm ρ n))
-  mulm-ok (by i m) n = insm-ok i (mulm m n) ∙ rw (mulm-ok m n, mul-assoc (look ρ i) (evm ρ m) (evm ρ n))
+  mulm-ok (by i m) n =
+      insm-ok i (mulm m n) ∙ rw (mulm-ok m n, mul-assoc (look ρ i) (evm ρ m) (evm ρ n))
 
   abbrev Inserted : ℤ → Mono → Poly → Poly → Type 0
   Inserted c m p r = evp ρ r ≡ c *ℤ evm ρ m +ℤ evp ρ p
 
-  order-ok : (b : Bool) (c : ℤ) (m : Mono) (d : ℤ) (n : Mono) (p r : Poly) → Inserted c m p r → Inserted c m (term d n p) (order b c m d n p r)
+  order-ok : (b : Bool) (c : ℤ) (m : Mono) (d : ℤ) (n : Mono) (p r : Poly) → Inserted c m p r
+      → Inserted c m (term d n p) (order b c m d n p r)
   unfolding evp
   order-ok true c m d n p r h = refl
   order-ok false c m d n p r h = rw (h, add-left-comm (d *ℤ evm ρ n) (c *ℤ evm ρ m) (evp ρ p))
 
-  join-ok : (b : Bool) (c : ℤ) (m : Mono) (d : ℤ) (n : Mono) (p r : Poly) → (T b → m ≡ n) → Inserted c m p r → Inserted c m (term d n p) (join b c m d n p r)
+  join-ok : (b : Bool) (c : ℤ) (m : Mono) (d : ℤ) (n : Mono) (p r : Poly) → (T b → m ≡ n)
+      → Inserted c m p r → Inserted c m (term d n p) (join b c m d n p r)
   unfolding evp
   join-ok true c m d n p r e h =
-      rw (add-mul c d (evm ρ m), +ℤ-assoc (c *ℤ evm ρ m) (d *ℤ evm ρ m) (evp ρ p)) (ap (λ (x : Mono). c *ℤ evm ρ m +ℤ (d *ℤ evm ρ x +ℤ evp ρ p)) (e tt))
+      rw (add-mul c d (evm ρ m), +ℤ-assoc (c *ℤ evm ρ m) (d *ℤ evm ρ m) (evp ρ p))
+          (ap (λ (x : Mono). c *ℤ evm ρ m +ℤ (d *ℤ evm ρ x +ℤ evp ρ p)) (e tt))
   join-ok false c m d n p r e h = order-ok (ltm m n) c m d n p r h
 
   insert-ok : (c : ℤ) (m : Mono) (p : Poly) → Inserted c m p (insert c m p)
   unfolding evp
   insert-ok c m nil = refl
-  insert-ok c m (term d n p) = join-ok (eqm m n) c m d n p (insert c m p) (eqm-ok m n) (insert-ok c m p)
+  insert-ok c m (term d n p) =
+      join-ok (eqm m n) c m d n p (insert c m p) (eqm-ok m n) (insert-ok c m p)
 
   addp-ok : (p q : Poly) → evp ρ (addp p q) ≡ evp ρ p +ℤ evp ρ q
   unfolding evp
   addp-ok nil q = sym (+ℤ-idl (evp ρ q))
-  addp-ok (term c m p) q = insert-ok c m (addp p q) ∙ rw (addp-ok p q, +ℤ-assoc (c *ℤ evm ρ m) (evp ρ p) (evp ρ q))
+  addp-ok (term c m p) q =
+      insert-ok c m (addp p q) ∙ rw (addp-ok p q, +ℤ-assoc (c *ℤ evm ρ m) (evp ρ p) (evp ρ q))
 
   scale-ok : (c : ℤ) (m : Mono) (p : Poly) → evp ρ (scale c m p) ≡ (c *ℤ evm ρ m) *ℤ evp ρ p
   unfolding evp
   scale-ok c m nil = sym (*ℤ-zero (c *ℤ evm ρ m))
   scale-ok c m (term d n p) =
       insert-ok (c *ℤ d) (mulm m n) (scale c m p)
-      ∙ rw (mulm-ok m n, scale-ok c m p, turn c d (evm ρ m) (evm ρ n), mul-add (c *ℤ evm ρ m) (d *ℤ evm ρ n) (evp ρ p))
+      ∙ rw (mulm-ok m n, scale-ok c m p, turn c d (evm ρ m) (evm ρ n),
+      mul-add (c *ℤ evm ρ m) (d *ℤ evm ρ n) (evp ρ p))
 
   mulp-ok : (p q : Poly) → evp ρ (mulp p q) ≡ evp ρ p *ℤ evp ρ q
   unfolding evp
   mulp-ok nil q = sym (zero-*ℤ (evp ρ q))
   mulp-ok (term c m p) q =
-      addp-ok (scale c m q) (mulp p q) ∙ rw (scale-ok c m q, mulp-ok p q, add-mul (c *ℤ evm ρ m) (evp ρ p) (evp ρ q))
+      addp-ok (scale c m q) (mulp p q) ∙ rw
+      (scale-ok c m q, mulp-ok p q, add-mul (c *ℤ evm ρ m) (evp ρ p) (evp ρ q))
 
   pub norm-ok : (e : Exp) → evp ρ (norm e) ≡ value ρ e
   unfolding evp evm
@@ -204,7 +215,8 @@ module _ (ρ : List ℤ) where
   zeros-ok (term (pos (suc k)) m p) t = absurd t
   zeros-ok (term (negsuc k) m p) t = absurd t
 
--- ---- a polynomial as a difference, in which each monomial's two parts are unknowns of `omega`, in whatever order the product was written
+-- ---- a polynomial as a difference, in which each monomial's two parts are unknowns of `omega`, in
+-- whatever order the product was written
 -- a monomial without the trailing one
 abbrev pub product : List ℤ → Mono → ℤ
 product ρ one = pos 1
@@ -228,14 +240,21 @@ dns ρ (term (pos c) m p) = c * dn (product ρ m) + dns ρ p
 dns ρ (term (negsuc c) m p) = suc c * up (product ρ m) + dns ρ p
 
 -- c times x, and then the rest
-add-pos : (c : ℕ) (x y : ℤ) (a b : ℕ) → Is y a b → Is (pos c *ℤ x +ℤ y) (c * up x + a) (c * dn x + b)
-add-pos c x y a b i = let h = is-add (pos c *ℤ x) y _ _ _ _ (is-mul (pos c) x c 0 (up x) (dn x) refl refl) i in omega arith
+add-pos : (c : ℕ) (x y : ℤ) (a b : ℕ) → Is y a b
+    → Is (pos c *ℤ x +ℤ y) (c * up x + a) (c * dn x + b)
+add-pos c x y a b i = let h =
+    is-add (pos c *ℤ x) y _ _ _ _ (is-mul (pos c) x c 0 (up x) (dn x) refl refl) i in omega arith
 
-add-neg : (c : ℕ) (x y : ℤ) (a b : ℕ) → Is y a b → Is (negsuc c *ℤ x +ℤ y) (suc c * dn x + a) (suc c * up x + b)
-add-neg c x y a b i = let h = is-add (negsuc c *ℤ x) y _ _ _ _ (is-mul (negsuc c) x 0 (suc c) (up x) (dn x) refl refl) i in omega arith
+add-neg : (c : ℕ) (x y : ℤ) (a b : ℕ) → Is y a b
+    → Is (negsuc c *ℤ x +ℤ y) (suc c * dn x + a) (suc c * up x + b)
+add-neg c x y a b i = let h =
+    is-add (negsuc c *ℤ x) y _ _ _ _ (is-mul (negsuc c) x 0 (suc c) (up x) (dn x) refl refl) i in
+    omega arith
 
 pub poly-is : (ρ : List ℤ) (p : Poly) → Is (evp ρ p) (ups ρ p) (dns ρ p)
 unfolding evp
 poly-is ρ nil = refl
-poly-is ρ (term (pos c) m p) = rw (product-ok ρ m) (add-pos c (product ρ m) (evp ρ p) (ups ρ p) (dns ρ p) (poly-is ρ p))
-poly-is ρ (term (negsuc c) m p) = rw (product-ok ρ m) (add-neg c (product ρ m) (evp ρ p) (ups ρ p) (dns ρ p) (poly-is ρ p))
+poly-is ρ (term (pos c) m p) =
+    rw (product-ok ρ m) (add-pos c (product ρ m) (evp ρ p) (ups ρ p) (dns ρ p) (poly-is ρ p))
+poly-is ρ (term (negsuc c) m p) =
+    rw (product-ok ρ m) (add-neg c (product ρ m) (evp ρ p) (ups ρ p) (dns ρ p) (poly-is ρ p))

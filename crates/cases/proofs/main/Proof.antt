@@ -1,4 +1,5 @@
--- `main` is safe and ends. Nothing has to hold from turn to turn; the measure is the number of turns that are left.
+-- `main` is safe and ends. Nothing has to hold from turn to turn; the measure is the number of
+-- turns that are left.
 use native.Mathlib.Omega.{arith}
 use Rattle.cases.proofs.main.Statement.{statement}
 use Rattle.cases.proofs.main.Tie as tie

@@ -1,5 +1,5 @@
--- The words of the stations, taken from the first: the offsets of a station are those of the list of them, and so the sum that stops before the last station
--- is the doubled area of that list.
+-- The words of the stations, taken from the first: the offsets of a station are those of the list
+-- of them, and so the sum that stops before the last station is the doubled area of that list.
 use Prim.Native.Nat.{ℕ, zero, suc, _+_, _*_, _^_, _≤_, _<_}
 use native.Mathlib.Omega.{arith}
 use native.Mathlib.Decide.{ℕ-discrete}
@@ -36,10 +36,15 @@ module _ (words : List ℤ) where
   taken-length : (k : ℕ) → length (takenFrom words k) ≡ 2 * k
   unfolding takenFrom
   taken-length zero = refl
-  taken-length (suc k) = omega (arith, length-append (takenFrom words k) ((wordAt words (2 * k) -ℤ wordAt words 0) ∷ (wordAt words (2 * k + 1) -ℤ wordAt words 1) ∷ []), taken-length k)
+  taken-length (suc k) =
+      omega (arith, length-append (takenFrom words k)
+      ((wordAt words (2 * k) -ℤ wordAt words 0) ∷
+      (wordAt words (2 * k + 1) -ℤ wordAt words 1) ∷ []), taken-length k)
 
   -- the two words of its last station, and of any
-  taken-last : (axis : Axis) (k : ℕ) → getD (takenFrom words (suc k)) (wordIndex axis k) (pos 0) ≡ wordAt words (wordIndex axis k) -ℤ wordAt words (wordIndex axis 0)
+  taken-last : (axis : Axis) (k : ℕ)
+      → getD (takenFrom words (suc k)) (wordIndex axis k) (pos 0) ≡ wordAt words
+      (wordIndex axis k) -ℤ wordAt words (wordIndex axis 0)
   unfolding takenFrom
   taken-last north k = getD-at (takenFrom words k) _ _ (pos 0) (2 * k) (taken-length k)
   taken-last east k =
@@ -50,13 +55,16 @@ module _ (words : List ℤ) where
   taken-room north k n h = omega (arith, taken-length n)
   taken-room east k n h = omega (arith, taken-length n)
 
-  taken-at : (axis : Axis) (k n : ℕ) → k < n → getD (takenFrom words n) (wordIndex axis k) (pos 0) ≡ wordAt words (wordIndex axis k) -ℤ wordAt words (wordIndex axis 0)
+  taken-at : (axis : Axis) (k n : ℕ) → k < n
+      → getD (takenFrom words n) (wordIndex axis k) (pos 0) ≡ wordAt words
+      (wordIndex axis k) -ℤ wordAt words (wordIndex axis 0)
   unfolding takenFrom
   taken-at axis k zero h = absurd (omega arith)
   taken-at axis k (suc n) h =
       elim (ℕ-discrete k n) [
         | yes e ↦ rw e (taken-last axis n)
-        | no e ↦ List·getD-append (takenFrom words n) _ (pos 0) (wordIndex axis k) (taken-room axis k n (omega arith)) ∙ taken-at axis k n (omega arith)
+        | no e ↦ List·getD-append (takenFrom words n) _ (pos 0) (wordIndex axis k)
+            (taken-room axis k n (omega arith)) ∙ taken-at axis k n (omega arith)
       ]
 
   module _ (n : ℕ) (p : AreaRanged n words) where
@@ -84,17 +92,24 @@ module _ (words : List ℤ) where
       pub ranged : Ranged o
       ranged =
           let l = takenFrom words n in
-          record { north = rw north-is (small-at l (2 * k) (p .near) (taken-room north k n h)); east = rw east-is (small-at l (2 * k + 1) (p .near) (taken-room east k n h)) }
+          record { north = rw north-is (small-at l (2 * k) (p .near) (taken-room north k n h));
+              east = rw east-is (small-at l (2 * k + 1) (p .near) (taken-room east k n h)) }
 
     -- ---- the sum
-    pub sum-next : (i : ℕ) (here there : Offsets) (sum z r : ℤ) → r ≡ sum +ℤ z → z ≡ here .north .v *ℤ there .east .v -ℤ there .north .v *ℤ here .east .v → TakenAt words i here
-        → TakenAt words (i + 1) there → i + 1 < n → sum ≡ doubledTo (takenFrom words n) i → r ≡ doubledTo (takenFrom words n) (i + 1)
+    pub sum-next : (i : ℕ) (here there : Offsets) (sum z r : ℤ) → r ≡ sum +ℤ z
+        → z ≡ here .north .v *ℤ there .east .v -ℤ there .north .v *ℤ here .east .v
+        → TakenAt words i here
+        → TakenAt words (i + 1) there → i + 1 < n → sum ≡ doubledTo (takenFrom words n) i
+        → r ≡ doubledTo (takenFrom words n) (i + 1)
     unfolding cross
     sum-next i here there sum z r e f s t h g =
         let l = takenFrom words n in
         let k : i < n = omega arith in
-        let c : z ≡ cross l i (i + 1) = f ∙ rw (north-is i here k s, east-is i here k s, north-is (i + 1) there h t, east-is (i + 1) there h t) in
-        round-next l i n (i + 1) sum z r e c (next-on i n k (λ q. omega arith)) g (sym (taken-length n))
+        let c : z ≡ cross l i (i + 1) =
+            f ∙ rw (north-is i here k s, east-is i here k s, north-is (i + 1) there h t,
+            east-is (i + 1) there h t) in
+        round-next l i n (i + 1) sum z r e c (next-on i n k (λ q. omega arith)) g
+        (sym (taken-length n))
 
     -- two stations, one of them the first, make no triangle with it
     last-nothing : (i : ℕ) → pos 0 ≡ cross (takenFrom words n) i 0
@@ -103,11 +118,14 @@ module _ (words : List ℤ) where
         let l = takenFrom words n in
         let h : 0 < n = omega (arith, p .some) in
         rw (taken-at north 0 n h, taken-at east 0 n h)
-        (ring (northing l i ∷ easting l i ∷ wordAt words 0 ∷ wordAt words 1 ∷ []) (λ v. search exps) tt)
+        (ring (northing l i ∷ easting l i ∷ wordAt words 0 ∷ wordAt words 1 ∷ [])
+        (λ v. search exps) tt)
 
-    pub sum-last : (i : ℕ) (sum : ℤ) → sum ≡ doubledTo (takenFrom words n) i → i < n → n ≤ i + 1 → sum ≡ doubled (takenFrom words n)
+    pub sum-last : (i : ℕ) (sum : ℤ) → sum ≡ doubledTo (takenFrom words n) i → i < n → n ≤ i + 1
+        → sum ≡ doubled (takenFrom words n)
     sum-last i sum e h k =
         let l = takenFrom words n in
         let m = sym (taken-length n) in
-        let last = round-next l i n 0 sum (pos 0) sum (sym (+ℤ-idr sum)) (last-nothing i) (next-first i n (omega arith)) e m in
+        let last = round-next l i n 0 sum (pos 0) sum (sym (+ℤ-idr sum)) (last-nothing i)
+            (next-first i n (omega arith)) e m in
         round-last l (i + 1) n sum last (omega arith) (omega arith) m

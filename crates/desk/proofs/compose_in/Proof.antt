@@ -1,4 +1,5 @@
--- `compose_in` meets its contract: what the two steps answer, and the words that they leave, are shown.
+-- `compose_in` meets its contract: what the two steps answer, and the words that they leave, are
+-- shown.
 use borrow.Author.Needs.{needs}
 use Rattle.sines.proofs.Own.{lent-entries}
 use Rattle.desk.proofs.Paging.{shows, showed}

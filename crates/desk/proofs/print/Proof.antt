@@ -1,6 +1,7 @@
 -- `print` meets its contract: no room, the text of the sheet, or the line of its refusal.
 use borrow.Author.Needs.{needs}
-use Rattle.desk.proofs.Printing.{none-length, none-bytes, text-length, text-over, refusal-room, refusal-length, refusal-over}
+use Rattle.desk.proofs.Printing.{none-length, none-bytes, text-length, text-over}
+use Rattle.desk.proofs.Printing.{refusal-room, refusal-length, refusal-over}
 use Rattle.desk.proofs.print.Statement.{statement}
 use Rattle.desk.proofs.print.Tie as tie
 

@@ -1,4 +1,5 @@
--- `sheet_in` meets its contract: no room, the refusal of a tape that does not read, or the sheet of one that does.
+-- `sheet_in` meets its contract: no room, the refusal of a tape that does not read, or the sheet of
+-- one that does.
 use borrow.Author.Needs.{needs}
 use Rattle.desk.proofs.Stepping.{known-is}
 use Rattle.desk.proofs.Paging.{no-room, refused-showed}

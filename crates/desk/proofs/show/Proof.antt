@@ -1,6 +1,7 @@
 -- `show` meets its contract: a refusal is handed on, and the text of an adjusted traverse has room.
 use borrow.Author.Needs.{needs}
-use Rattle.desk.proofs.Paging.{refused-page, refused-bytes, legs-few, text-room, text-page, text-bytes}
+use Rattle.desk.proofs.Paging.{refused-page, refused-bytes, legs-few, text-room, text-page}
+use Rattle.desk.proofs.Paging.{text-bytes}
 use Rattle.desk.proofs.show.Statement.{statement}
 use Rattle.desk.proofs.show.Tie as tie
 

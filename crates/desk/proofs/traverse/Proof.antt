@@ -1,5 +1,6 @@
 -- `traverse` meets its contract: the room, then the reading, then the two steps.
-use Rattle.desk.proofs.Stepping.{short-told, short-words, refused-told, refused-words, known-is, good-told, good-words}
+use Rattle.desk.proofs.Stepping.{short-told, short-words, refused-told, refused-words}
+use Rattle.desk.proofs.Stepping.{known-is, good-told, good-words}
 use borrow.Author.Needs.{needs}
 use Rattle.desk.proofs.traverse.Statement.{statement}
 use Rattle.desk.proofs.traverse.Tie as tie

@@ -1,5 +1,6 @@
 -- `work_in` meets its contract: the first step, then the second where it does not refuse.
-use Rattle.desk.proofs.Stepping.{first-sound, stopped-told, stopped-words, settled-told, settled-words}
+use Rattle.desk.proofs.Stepping.{first-sound, stopped-told, stopped-words, settled-told}
+use Rattle.desk.proofs.Stepping.{settled-words}
 use borrow.Author.Needs.{needs}
 use Rattle.desk.proofs.work_in.Statement.{statement}
 use Rattle.desk.proofs.work_in.Tie as tie

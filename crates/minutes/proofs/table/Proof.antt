@@ -1,4 +1,5 @@
--- `table` meets its contract: its constant is the list `minutes`, entry by entry, and of that list the rule is proved once.
+-- `table` meets its contract: its constant is the list `minutes`, entry by entry, and of that list
+-- the rule is proved once.
 use Rattle.minutes.proofs.Entries.{minutes-right}
 use Rattle.minutes.proofs.Listed.{minutes}
 use Rattle.minutes.proofs.table.Statement.{statement}

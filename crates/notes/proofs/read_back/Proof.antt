@@ -1,4 +1,5 @@
--- `read_back` answers a tape within the lent bytes, since it tests the length, and one that reads, since it has read it.
+-- `read_back` answers a tape within the lent bytes, since it tests the length, and one that reads,
+-- since it has read it.
 use borrow.Author.Needs.{needs}
 use native.Mathlib.Omega.{arith}
 use mathlib.Core.Path.{_≡_, sym, ap, _∙_}

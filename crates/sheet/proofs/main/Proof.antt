@@ -1,4 +1,5 @@
--- `main` is safe: as many bytes are written as `print` answered, and those stand at the front of its buffer.
+-- `main` is safe: as many bytes are written as `print` answered, and those stand at the front of
+-- its buffer.
 use Rattle.desk.proofs.Printing.{front, front-length}
 use borrow.Author.Needs.{needs}
 use Rattle.sheet.proofs.main.Statement.{statement}

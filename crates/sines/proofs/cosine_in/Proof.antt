@@ -1,4 +1,5 @@
--- `cosine_in` meets its contract: the angle a right angle ahead folds to what the folded angle leaves to 90 degrees.
+-- `cosine_in` meets its contract: the angle a right angle ahead folds to what the folded angle
+-- leaves to 90 degrees.
 use borrow.Author.Needs.{needs}
 use Rattle.answer.specs.Told.{toldAmount}
 use Rattle.sines.proofs.Quadrants.{cosine-told, too-far}

@@ -1,4 +1,5 @@
--- `cosine_negative` meets its contract: the angle ahead lies past 180 degrees just where the angle lies between 90 and 270.
+-- `cosine_negative` meets its contract: the angle ahead lies past 180 degrees just where the angle
+-- lies between 90 and 270.
 use Rattle.sines.proofs.Quadrants.{ahead-up, ahead-down}
 use Rattle.sines.proofs.cosine_negative.Statement.{statement}
 use Rattle.sines.proofs.cosine_negative.Tie as tie

@@ -1,4 +1,5 @@
--- `sides_in` meets its contract: the sizes are those of the folded angle and of what it leaves to 90 degrees, and the signs are by the halves of the circle.
+-- `sides_in` meets its contract: the sizes are those of the folded angle and of what it leaves to
+-- 90 degrees, and the signs are by the halves of the circle.
 use borrow.Author.Needs.{needs}
 use Rattle.sines.proofs.Turns.{sides-are, no-sides, no-angle, sine-given, cosine-given}
 use Rattle.sines.proofs.sides_in.Statement.{statement}

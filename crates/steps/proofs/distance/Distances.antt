@@ -28,9 +28,11 @@ module _ (e : ℤ) (feet : ℕ) (below : Bool) (f : feet ≡ natAbs e) (b : belo
     pub below-not : 1000 < feet → good e ≡ false
     below-not h = sym (range-below e feet 1000 20000 f (sym b ∙ t)) ∙ lt-leb feet 1000 h
 
-    pub sea-below : (r : ℕ) → r ≡ halfUp 209060000000000 (20906000 - feet) → feet ≤ 1000 → r ≡ seaLevel e
+    pub sea-below : (r : ℕ) → r ≡ halfUp 209060000000000 (20906000 - feet) → feet ≤ 1000
+        → r ≡ seaLevel e
     unfolding seaLevel
-    sea-below r i h = i ∙ ap (halfUp 209060000000000) (rw (s .1) (ap natAbs (less (s .0) (f ∙ ap natAbs (s .1)))))
+    sea-below r i h = i ∙ ap (halfUp 209060000000000)
+        (rw (s .1) (ap natAbs (less (s .0) (f ∙ ap natAbs (s .1)))))
       where
         less : (n : ℕ) → feet ≡ suc n → pos (20906000 - feet) ≡ pos 20906000 +ℤ negsuc n
         less n g = same (search ints) (omega arith)
@@ -47,7 +49,8 @@ module _ (e : ℤ) (feet : ℕ) (below : Bool) (f : feet ≡ natAbs e) (b : belo
 
     pub sea-above : (r : ℕ) → r ≡ halfUp 209060000000000 (20906000 + feet) → r ≡ seaLevel e
     unfolding seaLevel
-    sea-above r i = i ∙ ap (halfUp 209060000000000) (rw (u .1) (omega (arith, f ∙ ap natAbs (u .1))))
+    sea-above r i = i ∙ ap (halfUp 209060000000000)
+        (rw (u .1) (omega (arith, f ∙ ap natAbs (u .1))))
 
 -- ---- the combined factor is the nearest ten-millionth of the product, and nothing else is
 module _ (sea scale : ℕ) where

@@ -14,7 +14,8 @@ use borrow.Author.Tests.{lt-ltb, le-ltb, eq-eqb, ne-eqb, eqb-true}
 use Rattle.records.specs.Record.{bodyOf, kindFields, table}
 use Rattle.tape.specs.Tape.{atRows, afterProject, lineBegun, closed, isLeg, Stop, mayCome}
 use Rattle.tape.specs.Tape.{roomOf, start, readingOf}
-use Rattle.tape.specs.Passing.{cursor, readingFrom, past, pastRow, pastLeg, Passes, InLine, Rowed}
+use Rattle.tape.specs.Passing.{cursor, readingFrom, past, pastRow, pastLeg, Passes, InLine}
+use Rattle.tape.specs.Passing.{Rowed}
 use Rattle.tape.specs.Passing.{Opened, Walked}
 use Rattle.tape.specs.declared.State.{State}
 use Rattle.tape.specs.declared.Cursor.{Cursor}

@@ -17,7 +17,8 @@ use Rattle.records.specs.Record.{bodyOf, numbersOf, kindFields, table, goodOf}
 use Rattle.tape.specs.Tape.{afterProject, lineBegun, afterLeg, closed, isLeg, inPhase}
 use Rattle.tape.specs.Tape.{withRow, withLeg, Step, Next, Stop, mayCome, roomOf, rowNext}
 use Rattle.tape.specs.Tape.{projectNext, afterOf, takeOf, judge, stepOf}
-use Rattle.tape.specs.Passing.{cursor, readingFrom, pastRow, pastLeg, InLine, Passes, goodThere}
+use Rattle.tape.specs.Passing.{cursor, readingFrom, pastRow, pastLeg, InLine, Passes}
+use Rattle.tape.specs.Passing.{goodThere}
 use Rattle.tape.specs.declared.State.{State}
 use Rattle.tape.specs.declared.Cursor.{Cursor}
 use Rattle.tape.specs.declared.Reading.the-variants.{Refused}
@@ -133,7 +134,8 @@ module _ (s : List ℕ) (c : Cursor) where
           | no high ↦
               let two : n ≡ 2 = rw (le-ltb at (length s) (omega arith)) at e in
               rw two
-              (refused 2 (cursor b u) (omega arith) (sym (walk-open s st at _ (omega arith) refl p)))
+              (refused 2 (cursor b u) (omega arith)
+              (sym (walk-open s st at _ (omega arith) refl p)))
         ]
 
     due : n ≡ 0 → (at < length s) × (getD s at 0 ≡ k)
@@ -321,13 +323,15 @@ module _ (s : List ℕ) (c : Cursor) where
     leg-comes : mayCome st kind ≡ true
     unfolding mayCome
     leg-comes =
-        ⊎-elim (λ (q : st .phase ≡ lineBegun). rw (q, here)) (λ (q : st .phase ≡ afterLeg). rw (q, here)) p
+        ⊎-elim (λ (q : st .phase ≡ lineBegun). rw (q, here))
+            (λ (q : st .phase ≡ afterLeg). rw (q, here)) p
 
     pub leg-full : 64 ≤ st .legs → Passes s c 6 (pastLeg s c)
     unfolding roomOf
     leg-full h =
         fails 6 (pastLeg s c) leg-low (omega arith)
-        (one-too-many kind refl leg-comes 6 (rw (leg-apart kind 5 here refl, here, le-ltb (st .legs) 64 h)) (omega arith))
+        (one-too-many kind refl leg-comes 6
+        (rw (leg-apart kind 5 here refl, here, le-ltb (st .legs) 64 h)) (omega arith))
 
     module _ (few : st .legs < 64) where
       leg-due : Due kind
@@ -381,7 +385,8 @@ module _ (s : List ℕ) (c : Cursor) where
     unfolding mayCome
     no-close =
         ⊎-elim
-        (λ (p : st .phase ≡ lineBegun) r h. not-due 4 n e (inPhase closed st) (at + 17) (λ z. omega arith) (λ i. rw (p, r)) h)
+        (λ (p : st .phase ≡ lineBegun) r h. not-due 4 n e (inPhase closed st) (at + 17)
+            (λ z. omega arith) (λ i. rw (p, r)) h)
         (λ (p : st .phase ≡ afterLeg) r h.
         not-due 4 n e (inPhase closed st) (at + 17) (λ z. omega arith)
         (λ i. rw (p, r, ne-eqb (getD s at 0) 4 i)) h)
@@ -397,7 +402,8 @@ module _ (s : List ℕ) (c : Cursor) where
         close-comes : mayCome st 4 ≡ true
         unfolding mayCome
         close-comes =
-            ⊎-elim (λ (p : st .phase ≡ lineBegun). absurd (some p)) (λ (p : st .phase ≡ afterLeg). rw p) line
+            ⊎-elim (λ (p : st .phase ≡ lineBegun). absurd (some p))
+                (λ (p : st .phase ≡ afterLeg). rw p) line
 
         close-due : Due 4
         unfolding roomOf
@@ -411,7 +417,8 @@ module _ (s : List ℕ) (c : Cursor) where
             (a : angle ≡ num four s (at + 1)) (x : northing ≡ num four s (at + 5))
             (y : easting ≡ num four s (at + 9)) (m : mark ≡ num four s (at + 13))
             (i : g ≡ goodOf 4 (pos angle ∷ pos northing ∷ pos easting ∷ pos mark ∷ [])) where
-          close-numbers : numbersOf 4 (drop at s) ≡ pos angle ∷ pos northing ∷ pos easting ∷ pos mark ∷ []
+          close-numbers : numbersOf 4
+              (drop at s) ≡ pos angle ∷ pos northing ∷ pos easting ∷ pos mark ∷ []
           unfolding numbersOf kindFields table meant
           close-numbers =
               rw (

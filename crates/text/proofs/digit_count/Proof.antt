@@ -1,4 +1,5 @@
--- `digit_count` meets its contract: a number between two powers of ten has as many digits as the higher one has zeros.
+-- `digit_count` meets its contract: a number between two powers of ten has as many digits as the
+-- higher one has zeros.
 use native.Mathlib.Omega.{arith}
 use mathlib.Core.Path.{sym}
 use Rattle.text.proofs.Digits.{digitCount-low, digitCount-exact}

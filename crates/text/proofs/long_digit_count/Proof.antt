@@ -1,4 +1,5 @@
--- `long_digit_count` meets its contract. The loop's invariant: the digits counted and those of the rest are one more than those of the number. The measure is the rest.
+-- `long_digit_count` meets its contract. The loop's invariant: the digits counted and those of the
+-- rest are one more than those of the number. The measure is the rest.
 use Prim.Native.Nat.{_+_}
 use mathlib.Core.Path.{_≡_}
 use borrow.Author.Needs.{needs}

@@ -1,4 +1,5 @@
--- `put` meets its contract. The loop's invariant: the first k bytes of the text stand from the place on. The measure is the bytes that are left.
+-- `put` meets its contract. The loop's invariant: the first k bytes of the text stand from the
+-- place on. The measure is the bytes that are left.
 use Prim.Native.Nat.{_-_, _≤_}
 use mathlib.Core.Path.{_≡_}
 use borrow.Author.Needs.{needs}
@@ -9,7 +10,8 @@ use Rattle.text.proofs.put.Statement.{statement}
 use Rattle.text.proofs.put.Tie as tie
 
 abbrev Inv-loop : tie.InvT-loop
-Inv-loop out₀ at text k₀ out k = (k ≤ length text) × (length out ≡ length out₀) × (out ≡ sets out₀ at (take k text))
+Inv-loop out₀ at text k₀ out k =
+    (k ≤ length text) × (length out ≡ length out₀) × (out ≡ sets out₀ at (take k text))
 
 abbrev μ-loop : tie.MeasureT-loop
 μ-loop out₀ at text k₀ out k = length text - k

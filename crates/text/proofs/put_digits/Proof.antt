@@ -1,4 +1,5 @@
--- `put_digits` meets its contract. The loop's invariant: with the digits of the rest put in front of those that stand, all digits stand. The measure is what is left.
+-- `put_digits` meets its contract. The loop's invariant: with the digits of the rest put in front
+-- of those that stand, all digits stand. The measure is what is left.
 use Prim.Native.Nat.{_+_, _≤_}
 use mathlib.Core.Path.{_≡_}
 use borrow.Author.Needs.{needs}
@@ -10,7 +11,9 @@ use Rattle.text.proofs.put_digits.Statement.{statement}
 use Rattle.text.proofs.put_digits.Tie as tie
 
 abbrev Inv-loop : tie.InvT-loop
-Inv-loop out₀ at n k left₀ rest₀ out left rest = (left ≤ k) × (at + k ≤ length out₀) × (length out ≡ length out₀) × (sets out at (digits left rest) ≡ sets out₀ at (digits k n))
+Inv-loop out₀ at n k left₀ rest₀ out left rest =
+    (left ≤ k) × (at + k ≤ length out₀) × (length out ≡ length out₀) ×
+    (sets out at (digits left rest) ≡ sets out₀ at (digits k n))
 
 abbrev μ-loop : tie.MeasureT-loop
 μ-loop out₀ at n k left₀ rest₀ out left rest = left

@@ -1,5 +1,6 @@
--- `put_pairs` meets its contract. The loop's invariant: with the digits of the rest put in front of those that stand, all digits stand; two are put a turn, and
--- one is left after the loop where their number is odd. The measure is what is left.
+-- `put_pairs` meets its contract. The loop's invariant: with the digits of the rest put in front of
+-- those that stand, all digits stand; two are put a turn, and one is left after the loop where
+-- their number is odd. The measure is what is left.
 use Prim.Native.Nat.{_+_, _≤_}
 use mathlib.Core.Path.{_≡_}
 use native.Mathlib.Omega.{arith}
@@ -12,7 +13,9 @@ use Rattle.text.proofs.put_pairs.Statement.{statement}
 use Rattle.text.proofs.put_pairs.Tie as tie
 
 abbrev Inv-loop : tie.InvT-loop
-Inv-loop out₀ at n k left₀ rest₀ out left rest = (left ≤ k) × (at + k ≤ length out₀) × (length out ≡ length out₀) × (sets out at (digits left rest) ≡ sets out₀ at (digits k n))
+Inv-loop out₀ at n k left₀ rest₀ out left rest =
+    (left ≤ k) × (at + k ≤ length out₀) × (length out ≡ length out₀) ×
+    (sets out at (digits left rest) ≡ sets out₀ at (digits k n))
 
 abbrev μ-loop : tie.MeasureT-loop
 μ-loop out₀ at n k left₀ rest₀ out left rest = left

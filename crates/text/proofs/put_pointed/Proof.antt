@@ -1,4 +1,5 @@
--- `put_pointed` meets its contract: the whole ones, the point and the decimals are put one after the other.
+-- `put_pointed` meets its contract: the whole ones, the point and the decimals are put one after
+-- the other.
 use borrow.Author.Needs.{needs}
 use Rattle.text.proofs.Putting.{room-one, room-two, room-three, then}
 use Rattle.text.proofs.put_pointed.Statement.{statement}

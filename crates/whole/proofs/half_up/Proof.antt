@@ -1,4 +1,5 @@
--- `half_up` meets its contract: the code is the definition, nothing wraps, and half a unit more than n is below n + 1 units.
+-- `half_up` meets its contract: the code is the definition, nothing wraps, and half a unit more
+-- than n is below n + 1 units.
 use mathlib.Core.Path.{refl}
 use borrow.Author.Needs.{needs}
 use Rattle.whole.proofs.Rounding.{half-up-least}

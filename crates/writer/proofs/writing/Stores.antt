@@ -19,7 +19,9 @@ module _ (l : List ℕ) (i n : ℕ) where
   unfolding bytes
   two-stored = let e : i + 1 ≡ suc i = omega arith in rw e
 
-  pub four-stored : set (set (set (set l i (n / 16777216 % 256)) (i + 1) (n / 65536 % 256)) (i + 2) (n / 256 % 256)) (i + 3) (n % 256) ≡ sets l i (bytes four n)
+  pub four-stored : set
+      (set (set (set l i (n / 16777216 % 256)) (i + 1) (n / 65536 % 256)) (i + 2) (n / 256 % 256))
+      (i + 3) (n % 256) ≡ sets l i (bytes four n)
   unfolding bytes
   four-stored =
       let e : i + 1 ≡ suc i = omega arith in

@@ -1,4 +1,5 @@
--- `read_bytes` is safe, and what it answers lies within the room, since what was read lies within the part that was lent.
+-- `read_bytes` is safe, and what it answers lies within the room, since what was read lies within
+-- the part that was lent.
 use native.Mathlib.Omega.{arith}
 use lib.ListN.{length-take}
 use borrow.Author.Needs.{needs}

@@ -1,4 +1,5 @@
--- `angles_close` meets its contract: the step tells whether the test passes, since W and n are in range.
+-- `angles_close` meets its contract: the step tells whether the test passes, since W and n are in
+-- range.
 use borrow.Author.Needs.{needs}
 use Rattle.desk.proofs.Balancing.{angles-close}
 use Rattle.desk.proofs.angles.angles_close.Statement.{statement}

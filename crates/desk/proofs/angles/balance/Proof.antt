@@ -1,5 +1,5 @@
--- `balance` meets its contract. The loop's invariant: the azimuths before leg k are balanced, the others are as they were. The measure is the legs that
--- are left.
+-- `balance` meets its contract. The loop's invariant: the azimuths before leg k are balanced, the
+-- others are as they were. The measure is the legs that are left.
 use borrow.Author.Needs.{needs}
 use Prim.Native.Nat.{_-_, _≤_}
 use mathlib.Core.Path.{_≡_}

@@ -1,4 +1,5 @@
--- `balanced_leg` meets its contract: both steps give their values, since a share of a misclosure is no larger than that.
+-- `balanced_leg` meets its contract: both steps give their values, since a share of a misclosure is
+-- no larger than that.
 use borrow.Author.Needs.{needs, fits-under}
 use mir.Syntax.{w32}
 use Rattle.desk.proofs.Balancing.{balanced-is, balanced-turned}

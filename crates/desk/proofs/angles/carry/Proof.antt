@@ -21,7 +21,8 @@ abbrev Inv-loop : tie.InvT-loop
 Inv-loop tape c azimuths₀ distances₀ sight₀ azimuth₀ k₀ azimuths distances sight azimuth k =
     let t = turnsOf (fieldsOf tape) in
     (k ≤ c .legs) × Sighted tape k sight × (azimuth ≡ carried t k) × (azimuth < 12960000)
-    × (azimuths ≡ filled (carried t) k azimuths₀) × (distances ≡ filled (distanceAt (fieldsOf tape)) k distances₀)
+    × (azimuths ≡ filled (carried t) k azimuths₀) ×
+    (distances ≡ filled (distanceAt (fieldsOf tape)) k distances₀)
     × (c .legs ≤ length azimuths) × (c .legs ≤ length distances)
     × (length azimuths ≡ length azimuths₀) × (length distances ≡ length distances₀)
 

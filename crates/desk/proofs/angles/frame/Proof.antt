@@ -1,4 +1,5 @@
--- `frame` meets its contract: the factor is the combined one, since elevation and scale are in range, and the rest is handed on.
+-- `frame` meets its contract: the factor is the combined one, since elevation and scale are in
+-- range, and the rest is handed on.
 use Rattle.desk.proofs.Scaling.{frame-is}
 use borrow.Author.Needs.{needs}
 use Rattle.desk.proofs.angles.frame.Statement.{statement}

@@ -1,4 +1,5 @@
--- `misclosure_of` meets its contract: the step gives its value, since both azimuths are within the circle.
+-- `misclosure_of` meets its contract: the step gives its value, since both azimuths are within the
+-- circle.
 use Rattle.desk.proofs.Balancing.{misclosure-value, misclosure-small}
 use borrow.Author.Needs.{needs}
 use Rattle.desk.proofs.angles.misclosure_of.Statement.{statement}

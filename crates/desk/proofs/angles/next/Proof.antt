@@ -1,4 +1,5 @@
--- `next` meets its contract: the step gives its value, since azimuth and angle are within the circle.
+-- `next` meets its contract: the step gives its value, since azimuth and angle are within the
+-- circle.
 use borrow.Author.Needs.{needs, fits-under}
 use mir.Syntax.{w32}
 use Rattle.desk.proofs.Balancing.{azimuth-is, azimuth-turned}

@@ -1,4 +1,5 @@
--- `area` meets its contract: where there is a loop the sum round its stations is the doubled area, and else there is none.
+-- `area` meets its contract: where there is a loop the sum round its stations is the doubled area,
+-- and else there is none.
 use borrow.Author.Needs.{needs}
 use Rattle.whole.proofs.Branch.{told}
 use Rattle.desk.proofs.area.area.Statement.{statement}

@@ -1,4 +1,5 @@
--- `cross` meets its contract: four offsets in range have products, and a difference of products, that fit.
+-- `cross` meets its contract: four offsets in range have products, and a difference of products,
+-- that fit.
 use borrow.Author.Needs.{needs}
 use Rattle.steps.proofs.Areas.{cross-size}
 use Rattle.desk.proofs.area.cross.Statement.{statement}

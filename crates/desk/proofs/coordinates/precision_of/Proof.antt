@@ -1,4 +1,5 @@
--- `precision_of` meets its contract: the step gives its value, since closures and distance are in range.
+-- `precision_of` meets its contract: the step gives its value, since closures and distance are in
+-- range.
 use borrow.Author.Needs.{needs}
 use Rattle.desk.proofs.Settling.{precision-value}
 use Rattle.desk.proofs.coordinates.precision_of.Statement.{statement}

@@ -1,15 +1,18 @@
--- `put_all` meets its contract. The loop's invariant: the words have the stations before the one reached. The measure is the stations that are left.
+-- `put_all` meets its contract. The loop's invariant: the words have the stations before the one
+-- reached. The measure is the stations that are left.
 use borrow.Author.Needs.{needs}
 use Rattle.desk.proofs.coordinates.put_all.Statement.{statement}
 use mathlib.Core.Path.{_≡_, refl}
 use Prim.Native.Nat.{_+_, _-_, _≤_}
 use lib.ListN.{length}
 use Rattle.desk.specs.Inside.{putTo}
-use Rattle.desk.proofs.Settling.{spot-room, run-room, north-fits, east-fits, part-fits, station-room, put-next, put-last}
+use Rattle.desk.proofs.Settling.{spot-room, run-room, north-fits, east-fits, part-fits}
+use Rattle.desk.proofs.Settling.{station-room, put-next, put-last}
 use Rattle.desk.proofs.coordinates.put_all.Tie as tie
 
 abbrev Inv-loop : tie.InvT-loop
-Inv-loop n spots runs c words₀ k₀ words k = (k ≤ n + 1) × (words ≡ putTo spots runs c k words₀) × (length words ≡ length words₀)
+Inv-loop n spots runs c words₀ k₀ words k =
+    (k ≤ n + 1) × (words ≡ putTo spots runs c k words₀) × (length words ≡ length words₀)
 
 abbrev μ-loop : tie.MeasureT-loop
 μ-loop n spots runs c words₀ k₀ words k = n + 1 - k
@@ -28,7 +31,8 @@ shared-slice-read-put-station : tie.Need-shared-slice-read-put-station Inv-loop 
 shared-slice-read-put-station c = search run-room
 
 put-station-requires : tie.Need-put-station-requires Inv-loop μ-loop
-put-station-requires c κs = (search station-room, ((search north-fits, search east-fits), (search needs, search part-fits)))
+put-station-requires c κs =
+    (search station-room, ((search north-fits, search east-fits), (search needs, search part-fits)))
 
 loop-again : tie.Need-loop-again Inv-loop μ-loop
 loop-again c = (search needs, search put-next, search needs)

@@ -1,4 +1,5 @@
--- `within_limit` meets its contract: the step tells whether the test passes, since closures and distance are in range.
+-- `within_limit` meets its contract: the step tells whether the test passes, since closures and
+-- distance are in range.
 use borrow.Author.Needs.{needs}
 use Rattle.desk.proofs.Settling.{within-is}
 use Rattle.desk.proofs.coordinates.within_limit.Statement.{statement}

@@ -1,4 +1,5 @@
--- `advance` meets its contract: the steps give their values, since the leg is in range, and each is added to its sum.
+-- `advance` meets its contract: the steps give their values, since the leg is in range, and each is
+-- added to its sum.
 use Rattle.desk.proofs.Running.{course-small, advanced}
 use borrow.Author.Needs.{needs}
 use Rattle.desk.proofs.legs.advance.Statement.{statement}

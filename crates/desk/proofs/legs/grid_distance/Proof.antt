@@ -1,4 +1,5 @@
--- `grid_distance` meets its contract: the step gives its value, since distance and factor are in range.
+-- `grid_distance` meets its contract: the step gives its value, since distance and factor are in
+-- range.
 use borrow.Author.Needs.{needs}
 use Rattle.desk.proofs.Running.{grid-is, grid-small}
 use Rattle.desk.proofs.legs.grid_distance.Statement.{statement}

@@ -1,4 +1,5 @@
--- `put_all` meets its contract: the first line, those of the stations and the last one are put one after the other.
+-- `put_all` meets its contract: the first line, those of the stations and the last one are put one
+-- after the other.
 use borrow.Author.Needs.{needs}
 use Rattle.text.proofs.Putting.{room-one, room-two, room-three, then}
 use Rattle.desk.specs.Sheet.{textOf}

@@ -1,4 +1,5 @@
--- `put_coordinates` meets its contract: northing, easting and the line feed are put one after the other.
+-- `put_coordinates` meets its contract: northing, easting and the line feed are put one after the
+-- other.
 use borrow.Author.Needs.{needs}
 use Rattle.text.proofs.Putting.{room-one, room-two, room-three, then}
 use Rattle.desk.proofs.lines.put_coordinates.Statement.{statement}

@@ -1,4 +1,5 @@
--- `put_stations` meets its contract. The loop's invariant: the lines of the first k stations are put. The measure is the stations that are left.
+-- `put_stations` meets its contract. The loop's invariant: the lines of the first k stations are
+-- put. The measure is the stations that are left.
 use Prim.Native.Nat.{_-_, _≤_}
 use mathlib.Core.Path.{_≡_}
 use borrow.Author.Needs.{needs}
@@ -10,7 +11,8 @@ use Rattle.desk.proofs.lines.put_stations.Statement.{statement}
 use Rattle.desk.proofs.lines.put_stations.Tie as tie
 
 abbrev Inv-loop : tie.InvT-loop
-Inv-loop out₀ at words n i₀ k₀ out i k = (k ≤ n) × (length out ≡ length out₀) × Put out₀ at (stationLines words k) out i
+Inv-loop out₀ at words n i₀ k₀ out i k =
+    (k ≤ n) × (length out ≡ length out₀) × Put out₀ at (stationLines words k) out i
 
 abbrev μ-loop : tie.MeasureT-loop
 μ-loop out₀ at words n i₀ k₀ out i k = n - k

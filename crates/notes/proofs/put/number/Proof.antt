@@ -1,4 +1,5 @@
--- `number` has room for what it puts. It tests that 20 bytes are left, and no number of 64 bits has more digits.
+-- `number` has room for what it puts. It tests that 20 bytes are left, and no number of 64 bits has
+-- more digits.
 use borrow.Author.Needs.{needs}
 use Rattle.text.proofs.Lengths.{decimal-fits}
 use Rattle.notes.proofs.put.number.Statement.{statement}

@@ -1,4 +1,5 @@
--- `cross` meets its contract: four offsets in range have products, and a difference of products, that fit.
+-- `cross` meets its contract: four offsets in range have products, and a difference of products,
+-- that fit.
 use borrow.Author.Needs.{needs}
 use Prim.Native.Nat.{_≤_}
 use lib.IntN.{natAbs}
@@ -11,8 +12,12 @@ sized : (c : tie.After-minus) → natAbs (c .minus .result .v) ≤ 3380000000000
 sized c =
     let q = c .before in
     let p = q .before .before .before in
-    cross-size (natAbs (c .minus .result .v)) (p .times .result .v) (q .times2 .result .v) (p .before .before .offset .result .v) (p .before .offset2 .result .v) (q .before .before .offset3 .result .v) (q .before .offset4 .result .v)
-    (c .minus .ensures .1) (p .times .ensures .0) (q .times2 .ensures .0) (p .before .before .offset .ensures .1) (p .before .offset2 .ensures .1) (q .before .before .offset3 .ensures .1) (q .before .offset4 .ensures .1)
+    cross-size (natAbs (c .minus .result .v)) (p .times .result .v) (q .times2 .result .v)
+    (p .before .before .offset .result .v) (p .before .offset2 .result .v)
+    (q .before .before .offset3 .result .v) (q .before .offset4 .result .v)
+    (c .minus .ensures .1) (p .times .ensures .0) (q .times2 .ensures .0)
+    (p .before .before .offset .ensures .1) (p .before .offset2 .ensures .1)
+    (q .before .before .offset3 .ensures .1) (q .before .offset4 .ensures .1)
 
 returns : tie.Need-returns
 unfolding cross

@@ -1,4 +1,5 @@
--- `doubled_area` meets its contract: each test is a bound of the range, and in range the sum is the rule.
+-- `doubled_area` meets its contract: each test is a bound of the range, and in range the sum is the
+-- rule.
 use borrow.Author.Needs.{needs}
 use borrow.Author.Tests.{eq-eqb, ne-eqb}
 use native.Mathlib.Omega.{arith}

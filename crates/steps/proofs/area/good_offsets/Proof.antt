@@ -1,5 +1,6 @@
--- `good_offsets` meets its contract. The loop's invariant: the words from station i on pass the test just where all do, since those before it passed. The
--- measure is what is left of the stations.
+-- `good_offsets` meets its contract. The loop's invariant: the words from station i on pass the
+-- test just where all do, since those before it passed. The measure is what is left of the
+-- stations.
 use Prim.Native.Nat.{_-_, _*_, _≤_}
 use mathlib.Core.Path.{_≡_, refl}
 use lib.ListN.{drop}

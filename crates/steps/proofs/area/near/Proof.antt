@@ -1,4 +1,5 @@
--- `near` meets its contract: the second offset is tested only where the first is in range, and else the answer is no.
+-- `near` meets its contract: the second offset is tested only where the first is in range, and else
+-- the answer is no.
 use borrow.Author.Needs.{needs}
 use Rattle.steps.proofs.Areas.{near-first, near-second}
 use Rattle.steps.proofs.area.near.Statement.{statement}

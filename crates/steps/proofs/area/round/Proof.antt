@@ -1,5 +1,5 @@
--- `round` meets its contract. The loop's invariant: the sum is that of the first i stations, and at most i times the largest cross product. The measure is what
--- is left of the stations.
+-- `round` meets its contract. The loop's invariant: the sum is that of the first i stations, and at
+-- most i times the largest cross product. The measure is what is left of the stations.
 use Prim.Native.Nat.{_+_, _-_, _*_, _%_, _≤_, _<_}
 use mathlib.Core.Path.{_≡_, refl}
 use native.Mathlib.Omega.{arith}
@@ -12,7 +12,8 @@ use Rattle.steps.proofs.area.round.Statement.{statement}
 use Rattle.steps.proofs.area.round.Tie as tie
 
 abbrev Inv-loop : tie.InvT-loop
-Inv-loop offsets n sum₀ i₀ sum i = (i ≤ n) × (sum .v ≡ doubledTo offsets i) × (natAbs (sum .v) ≤ i * 33800000000000000)
+Inv-loop offsets n sum₀ i₀ sum i =
+    (i ≤ n) × (sum .v ≡ doubledTo offsets i) × (natAbs (sum .v) ≤ i * 33800000000000000)
 
 abbrev μ-loop : tie.MeasureT-loop
 μ-loop offsets n sum₀ i₀ sum i = n - i
@@ -27,7 +28,8 @@ next-requires c κs = omega arith
 cross-requires : tie.Need-cross-requires Inv-loop μ-loop
 cross-requires c κs =
     let s = c .before .before .before in
-    let m : (c .before .before .loop .i + 1) % s .args .n < s .args .n = mod-lt (c .before .before .loop .i + 1) (omega arith) in
+    let m : (c .before .before .loop .i + 1) % s .args .n < s .args .n =
+        mod-lt (c .before .before .loop .i + 1) (omega arith) in
     (s .pre .0, (omega (arith, c .next .ensures), omega (arith, c .next .ensures)))
 
 plus-requires : tie.Need-plus-requires Inv-loop μ-loop

@@ -1,4 +1,5 @@
--- `within` meets its contract: an offset whose size is above the bound lies below the least or above the most, and no other does.
+-- `within` meets its contract: an offset whose size is above the bound lies below the least or
+-- above the most, and no other does.
 use borrow.Author.Needs.{needs}
 use Rattle.steps.proofs.Areas.{too-low, too-high, within-both}
 use Rattle.steps.proofs.area.within.Statement.{statement}

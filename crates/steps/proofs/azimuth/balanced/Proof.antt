@@ -1,4 +1,5 @@
--- `balanced` meets its contract: a share below zero is added, another taken off after a whole circle is put in; the circle drops out again.
+-- `balanced` meets its contract: a share below zero is added, another taken off after a whole
+-- circle is put in; the circle drops out again.
 use borrow.Author.Needs.{needs}
 use Rattle.answer.proofs.Telling.{ranges}
 use Rattle.steps.proofs.Turning.{balanced-below, balanced-above}

@@ -1,4 +1,5 @@
--- `misclosure` meets its contract: the difference modulo the circle is the amount itself up to half a circle, and past that the opposite of what is left.
+-- `misclosure` meets its contract: the difference modulo the circle is the amount itself up to half
+-- a circle, and past that the opposite of what is left.
 use borrow.Author.Needs.{needs}
 use Rattle.answer.proofs.Telling.{ranges}
 use Rattle.steps.proofs.Turning.{near-side, far-side}

@@ -1,4 +1,5 @@
--- `onward` meets its contract: two angles of the circle and half a circle, their sum taken modulo the circle.
+-- `onward` meets its contract: two angles of the circle and half a circle, their sum taken modulo
+-- the circle.
 use borrow.Author.Needs.{needs}
 use Rattle.answer.proofs.Telling.{ranges}
 use Rattle.steps.proofs.azimuth.onward.Statement.{statement}

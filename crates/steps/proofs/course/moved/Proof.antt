@@ -1,4 +1,5 @@
--- `moved` meets its contract: a sine is its size with its sign, by which `move_by` moves, and where none was told none is moved by.
+-- `moved` meets its contract: a sine is its size with its sign, by which `move_by` moves, and where
+-- none was told none is moved by.
 use borrow.Author.Needs.{needs}
 use Prim.Native.Nat.{_≤_}
 use Rattle.answer.proofs.Telling.{ranges}

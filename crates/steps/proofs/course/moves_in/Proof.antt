@@ -1,4 +1,5 @@
--- `moves_in` meets its contract: each move is by the size and the sign of the sine that counts along its axis, and an azimuth without sides is refused.
+-- `moves_in` meets its contract: each move is by the size and the sign of the sine that counts
+-- along its axis, and an azimuth without sides is refused.
 use borrow.Author.Needs.{needs}
 use Rattle.steps.specs.Course.{toldMove}
 use Rattle.steps.proofs.Moving.{too-long, no-azimuth, sine-small, cosine-small, along-told}

@@ -1,4 +1,5 @@
--- `grid` meets its contract: each test is a bound of the range, and in range the product is far below 2 ^ 63.
+-- `grid` meets its contract: each test is a bound of the range, and in range the product is far
+-- below 2 ^ 63.
 use native.Mathlib.Omega.{arith}
 use Rattle.answer.proofs.Telling.{ranges}
 use Rattle.steps.specs.Distance.{grid}
@@ -19,10 +20,14 @@ returns-4 : tie.Need-returns-4
 returns-4 c = search ranges depth 8
 
 mul-half-up : tie.Need-mul-half-up
-mul-half-up c = let s = c .before .before .before .before in omega (arith, product-most (s .args .distance) (s .args .factor) 20000000 10020010 (omega arith) (omega arith))
+mul-half-up c = let s = c .before .before .before .before in
+    omega (arith, product-most (s .args .distance) (s .args .factor) 20000000 10020010 (omega arith)
+    (omega arith))
 
 half-up-requires : tie.Need-half-up-requires
-half-up-requires c κs = let s = c .before .before .before .before in omega (arith, product-most (s .args .distance) (s .args .factor) 20000000 10020010 (omega arith) (omega arith))
+half-up-requires c κs = let s = c .before .before .before .before in
+    omega (arith, product-most (s .args .distance) (s .args .factor) 20000000 10020010 (omega arith)
+    (omega arith))
 
 returns-5 : tie.Need-returns-5
 unfolding grid

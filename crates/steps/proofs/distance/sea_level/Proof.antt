@@ -1,7 +1,9 @@
--- `sea_level` meets its contract: below zero the elevation takes its feet off the radius, else it adds them; so the divisor is never small.
+-- `sea_level` meets its contract: below zero the elevation takes its feet off the radius, else it
+-- adds them; so the divisor is never small.
 use borrow.Author.Needs.{needs}
 use Rattle.answer.proofs.Telling.{ranges}
-use Rattle.steps.proofs.distance.Distances.{below-good, below-not, above-good, above-not, sea-below, sea-above}
+use Rattle.steps.proofs.distance.Distances.{below-good, below-not, above-good, above-not}
+use Rattle.steps.proofs.distance.Distances.{sea-below, sea-above}
 use Rattle.steps.proofs.distance.sea_level.Statement.{statement}
 use Rattle.steps.proofs.distance.sea_level.Tie as tie
 

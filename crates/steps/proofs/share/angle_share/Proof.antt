@@ -1,4 +1,5 @@
--- `angle_share` meets its contract: each test is a bound of the range, and in range the share is the rule.
+-- `angle_share` meets its contract: each test is a bound of the range, and in range the share is
+-- the rule.
 use borrow.Author.Needs.{needs}
 use Rattle.answer.proofs.Telling.{ranges}
 use Rattle.steps.proofs.share.angle_share.Statement.{statement}

@@ -1,4 +1,5 @@
--- `share` meets its contract: each test is a bound of the range, and in range the share is the rule.
+-- `share` meets its contract: each test is a bound of the range, and in range the share is the
+-- rule.
 use borrow.Author.Needs.{needs}
 use Rattle.answer.proofs.Telling.{ranges}
 use Rattle.steps.proofs.share.share.Statement.{statement}

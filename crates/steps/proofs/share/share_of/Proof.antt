@@ -1,4 +1,5 @@
--- `share_of` meets its contract: the size of the total is shared as the rule says, and a share of the opposite is the opposite share.
+-- `share_of` meets its contract: the size of the total is shared as the rule says, and a share of
+-- the opposite is the opposite share.
 use Prim.Native.Nat.{_*_, _≤_}
 use borrow.Author.Needs.{needs}
 use native.Mathlib.Omega.{arith}
@@ -9,7 +10,8 @@ use Rattle.steps.proofs.share.share_of.Tie as tie
 
 -- the largest part times the largest total
 most : (c : tie.After-size) → c .before .args .part * c .size .result ≤ 8424000000000000
-most c = product-most (c .before .args .part) (c .size .result) 1300000000 6480000 (omega arith) (omega arith)
+most c = product-most (c .before .args .part) (c .size .result) 1300000000 6480000 (omega arith)
+    (omega arith)
 
 mul-half-up : tie.Need-mul-half-up
 mul-half-up c = record { fits = omega (arith, most c) }

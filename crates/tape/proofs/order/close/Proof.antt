@@ -2,7 +2,8 @@
 -- leg it may not either.
 use borrow.Author.Needs.{needs}
 use Rattle.records.specs.Record.{bodyOf, kindFields, table}
-use Rattle.tape.proofs.order.Passing.{due-within, no-close, close-early, close-short, close-passes}
+use Rattle.tape.proofs.order.Passing.{due-within, no-close, close-early, close-short}
+use Rattle.tape.proofs.order.Passing.{close-passes}
 use Rattle.tape.proofs.order.Passing.{close-bad}
 use Rattle.tape.proofs.order.close.Statement.{statement}
 use Rattle.tape.proofs.order.close.Tie as tie

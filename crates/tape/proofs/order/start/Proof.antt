@@ -1,7 +1,8 @@
 -- `start` meets its contract: nothing else may stand there, and the tests are those of any record.
 use borrow.Author.Needs.{needs}
 use Rattle.records.specs.Record.{bodyOf, kindFields, table}
-use Rattle.tape.proofs.order.Passing.{due-within, no-start, start-short, start-passes, start-bad}
+use Rattle.tape.proofs.order.Passing.{due-within, no-start, start-short, start-passes}
+use Rattle.tape.proofs.order.Passing.{start-bad}
 use Rattle.tape.proofs.order.start.Statement.{statement}
 use Rattle.tape.proofs.order.start.Tie as tie
 

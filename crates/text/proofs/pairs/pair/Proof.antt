@@ -1,4 +1,5 @@
--- `pair` meets its contract: in each arm the number is the key, and both digits are computed. No number below 100 is left for the last arm.
+-- `pair` meets its contract: in each arm the number is the key, and both digits are computed. No
+-- number below 100 is left for the last arm.
 use native.Mathlib.Omega.{arith}
 use borrow.Author.Needs.{needs}
 use Rattle.whole.proofs.Branch.{past}

@@ -1,4 +1,5 @@
--- `answer` meets its contract: the figures are stored, then each case stores its place and returns its number.
+-- `answer` meets its contract: the figures are stored, then each case stores its place and returns
+-- its number.
 use borrow.Author.Needs.{needs}
 use Rattle.vastrudhil.proofs.Figures.{tells-refused, tells-adjusted}
 use Rattle.vastrudhil.proofs.tell.answer.Statement.{statement}

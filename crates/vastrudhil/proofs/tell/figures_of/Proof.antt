@@ -1,7 +1,8 @@
 -- `figures_of` meets its contract: the case's own numbers, each as an amount.
 use borrow.Author.Needs.{needs}
 use Rattle.vastrudhil.specs.Face.{values}
-use Rattle.vastrudhil.proofs.Figures.{refused-figures, legs-fit, precision-fits, adjusted-figures}
+use Rattle.vastrudhil.proofs.Figures.{refused-figures, legs-fit, precision-fits}
+use Rattle.vastrudhil.proofs.Figures.{adjusted-figures}
 use Rattle.vastrudhil.proofs.tell.figures_of.Statement.{statement}
 use Rattle.vastrudhil.proofs.tell.figures_of.Tie as tie
 

@@ -1,4 +1,5 @@
--- `words_of` meets its contract. The loop's invariant: the words before the one reached are stored. The measure is the words that are left.
+-- `words_of` meets its contract. The loop's invariant: the words before the one reached are stored.
+-- The measure is the words that are left.
 use borrow.Author.Needs.{needs}
 use mathlib.Core.Path.{_≡_, refl}
 use Prim.Native.Nat.{_-_, _≤_}

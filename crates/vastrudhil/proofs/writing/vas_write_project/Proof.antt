@@ -8,7 +8,8 @@ use Rattle.vastrudhil.proofs.writing.vas_write_project.Tie as tie
 returns : tie.Need-returns
 returns c =
     let w = c .before .before .before .before .before in
-    project-as (toZ-ofZ (w .before .before .before .fits .elevation)) (writes-as _ _ _ _ _ _ _ _ (w .write .ensures) (c .written .ensures))
+    project-as (toZ-ofZ (w .before .before .before .fits .elevation))
+    (writes-as _ _ _ _ _ _ _ _ (w .write .ensures) (c .written .ensures))
 
 pub vas-write-project-spec : {M : Type 1} → statement M
 vas-write-project-spec =

@@ -1,4 +1,5 @@
--- `Whole::minus` meets its contract: two amounts below 2 ^ 62 have a difference below 2 ^ 63, so the machine's difference is that of ℤ.
+-- `Whole::minus` meets its contract: two amounts below 2 ^ 62 have a difference below 2 ^ 63, so
+-- the machine's difference is that of ℤ.
 use lib.IntN.{_-ℤ_}
 use Rattle.whole.proofs.Laws.{triangle-sub}
 use Rattle.whole.proofs.Machine.{sum-fits, sum-is, sum-size}

@@ -1,4 +1,5 @@
--- `Whole::of_size` meets its contract: below 2 ^ 63 the bits of a natural number are those of the amount.
+-- `Whole::of_size` meets its contract: below 2 ^ 63 the bits of a natural number are those of the
+-- amount.
 use mathlib.Core.Path.{ap}
 use borrow.Author.Needs.{needs}
 use lib.IntN.{natAbs}

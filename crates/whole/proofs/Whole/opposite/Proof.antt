@@ -1,4 +1,5 @@
--- `Whole::opposite` meets its contract: the machine takes the amount from zero, and the size stays below 2 ^ 63.
+-- `Whole::opposite` meets its contract: the machine takes the amount from zero, and the size stays
+-- below 2 ^ 63.
 use Rattle.whole.proofs.Machine.{opposite-fits, opposite-is, opposite-size}
 use Rattle.whole.proofs.Whole.opposite.Statement.{statement}
 use Rattle.whole.proofs.Whole.opposite.Tie as tie

@@ -1,4 +1,5 @@
--- `Whole::plus` meets its contract: two amounts below 2 ^ 62 have a sum below 2 ^ 63, so the machine's sum is that of ℤ.
+-- `Whole::plus` meets its contract: two amounts below 2 ^ 62 have a sum below 2 ^ 63, so the
+-- machine's sum is that of ℤ.
 use lib.IntN.{_+ℤ_}
 use Rattle.whole.proofs.Laws.{triangle}
 use Rattle.whole.proofs.Machine.{sum-fits, sum-is, sum-size}

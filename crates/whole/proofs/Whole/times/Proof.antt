@@ -1,4 +1,5 @@
--- `Whole::times` meets its contract: an amount below 2 ^ 34 and one below 2 ^ 28 have a product below 2 ^ 62, so the machine's product is that of ℤ.
+-- `Whole::times` meets its contract: an amount below 2 ^ 34 and one below 2 ^ 28 have a product
+-- below 2 ^ 62, so the machine's product is that of ℤ.
 use Rattle.whole.proofs.Machine.{product-fits, product-is, product-size}
 use Rattle.whole.proofs.Whole.times.Statement.{statement}
 use Rattle.whole.proofs.Whole.times.Tie as tie
