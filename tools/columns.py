@@ -1,14 +1,14 @@
 #!/usr/bin/env python3
-"""Checks that no line of the code and of the definitions, crates/*/src/ and crates/*/specs/, has
-more than 100 columns. The pages are checked by tools/pages.py. Run from anywhere: tools/columns.py;
-it prints the lines that are wider, and ends with 1 if there is any."""
+"""Checks that no line of the code, the definitions and the proofs (src/, specs/ and proofs/ of each
+crate) has more than 100 columns. The pages are checked by tools/pages.py. Run from anywhere:
+tools/columns.py; it prints the lines that are wider, and ends with 1 if there is any."""
 
 import sys
 from pathlib import Path
 
 ROOT = Path(__file__).resolve().parent.parent
 COLUMNS = 100
-KEPT = ("crates/*/src/**/*.rt", "crates/*/specs/**/*.antt")
+KEPT = ("crates/*/src/**/*.rt", "crates/*/specs/**/*.antt", "crates/*/proofs/**/*.antt")
 
 
 def wide(path: Path) -> list[str]:

@@ -173,12 +173,12 @@ module _ (l : List ℕ) (at k n : ℕ) where
         let (first, last) = bytes-of (rest / 10 % 10) (rest % 10) t (omega arith) (omega arith)
             (f ∙ rw (tens, units)) in
         let both : rest / 100 ≡ rest / 10 / 10 = omega arith in
-        let place : at + j + 1 ≡ at + suc j = omega arith in
-        rw (i, last, first, both, place)
+        let next : at + j + 1 ≡ at + suc j = omega arith in
+        rw (i, last, first, both, next)
         (sym (last-digit (set m (at + suc j) (48 + rest % 10)) at j (rest / 10)) ∙ sym
         (last-digit m at (suc j) rest) ∙ e)
 
-    -- the list is as long as it was, so the second of them has its place too
+    -- the list is as long as it was, so the second of them has its byte too
     pub second-within : (left v : ℕ) → left ≤ k → at + k ≤ length l → length m ≡ length l → 1 < left
         → at + (left - 2) < length (set m (at + (left - 2) + 1) v)
     second-within left v h i e g = omega (arith, length-set m (at + (left - 2) + 1) v)

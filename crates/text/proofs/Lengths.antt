@@ -34,7 +34,8 @@ amount-most plus d k z h i =
         (λ e. omega (arith, n))
     (λ e. omega (arith, length-append plus (pointed d (natAbs z)), n))
 
--- ---- room for digits, and for every number of 64 bits, where so many bytes are left after a place
+-- ---- room for digits, and for every number of 64 bits, where enough bytes are left after an
+-- offset
 module _ (l : List ℕ) (at n : ℕ) (h : at ≤ length l) where
   pub digits-fit : (k : ℕ) → k ≤ length l - at → Room l at (digits k n)
   digits-fit k i = omega (arith, digits-length k n)

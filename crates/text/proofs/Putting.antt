@@ -1,5 +1,5 @@
--- Texts put one after the other are their join put at the place of the first, and there is room for
--- each where there is room for the join.
+-- Texts put one after the other are their join put at the offset of the first, and there is room
+-- for each where there is room for the join.
 use Prim.Native.Nat.{ℕ, suc, _+_, _≤_, _<_}
 use native.Mathlib.Omega.{arith}
 use native.Mathlib.Nat.{zero-add}

@@ -1,5 +1,5 @@
 -- Any two outcomes that a promise of this crate allows coincide, wherever there is room: `Put` says
--- what every lent byte is afterwards, and which place is answered.
+-- what every lent byte is afterwards, and which offset is answered.
 use mathlib.Core.Path.{_≡_, sym, _∙_}
 use mathlib.Core.List.{List}
 use Prim.Native.Nat.{ℕ}

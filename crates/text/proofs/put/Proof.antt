@@ -1,5 +1,5 @@
 -- `put` meets its contract. The loop's invariant: the first k bytes of the text stand from the
--- place on. The measure is the bytes that are left.
+-- offset on. The measure is the bytes that are left.
 use Prim.Native.Nat.{_-_, _≤_}
 use mathlib.Core.Path.{_≡_}
 use borrow.Author.Needs.{needs}
