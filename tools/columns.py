@@ -8,6 +8,8 @@ from pathlib import Path
 
 ROOT = Path(__file__).resolve().parent.parent
 COLUMNS = 100
+# The list of the table's entries, which tools/sine_table.py makes.
+MADE = {"crates/minutes/proofs/Listed.antt"}
 KEPT = ("crates/*/src/**/*.rt", "crates/*/specs/**/*.antt", "crates/*/proofs/**/*.antt")
 
 
@@ -15,6 +17,8 @@ def wide(path: Path) -> list[str]:
     """The lines of a file that are too wide, each with its place and its width."""
     lines = path.read_text(encoding="utf-8").splitlines()
     name = path.relative_to(ROOT).as_posix()
+    if name in MADE:
+        return []
     return [f"{name}:{n}: {len(line)}" for n, line in enumerate(lines, 1) if COLUMNS < len(line)]
 
 

@@ -79,6 +79,6 @@ pub fn at_most(n: usize, room: &[u8]) -> usize
 pub fn read_bytes(room: &mut [u8]) -> usize
     ensures { λ r. ⌜ Counts r (now (room .exit)) ⌝ }
 {
-    let length = at_most(read_u16(), room);
-    io::read_full(STDIN_FILENO, &mut room[..length])
+    let many = at_most(read_u16(), room);
+    io::read_full(STDIN_FILENO, &mut room[..many])
 }

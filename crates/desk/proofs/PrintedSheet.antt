@@ -34,7 +34,7 @@ short n h = decimal-short 9 n h
 
 figures : printedOf answer (stations ++ replicate 120 (pos 0)) ≡ sheet
 unfolding digits digitCountIn pointed sign amount closures closeLine stationLine lineOf stationLines
-areaLine textOf printedOf
+    areaLine textOf printedOf
 figures =
     rw (
       short 0 (omega arith),

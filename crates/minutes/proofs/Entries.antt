@@ -30,7 +30,7 @@ right k x = is (entry k) x && leb x 1000000000
 
 all-right : T (every right 0 minutes)
 unfolding minutes right is entry nearest exactSine around turned folded exactQuarter bySeries series
-weight unity straight pi factorial
+    weight unity straight pi factorial
 all-right = tt
 
 module _ (m : ℕ) (h : m ≤ 5400) where

@@ -116,7 +116,7 @@ low-entry m h = rw (by-sine (600 * m) (omega arith)) at (entry-half m (omega ari
 
 middle-entry : Half (entry 2700) (series cosinePowers 1620000)
 unfolding Half entry nearest exactSine around turned folded exactQuarter bySeries series weight
-unity straight pi factorial
+    unity straight pi factorial
 middle-entry = lit≤ tt
 
 high-entry : (m y : ℕ) → 2700 ≤ m → m ≤ 5400 → 3240000 - 600 * m ≡ y

@@ -90,12 +90,12 @@ Hold figures = map (λ (f : Figure). f .rule) figures ≡ map
 
 pub marked-hold : Hold marked
 unfolding marked sineBy quarterBy between entry nearest exactSine around turned folded exactQuarter
-bySeries series weight unity straight pi factorial seaLevel combine grid inside share move sineAlong
+    bySeries series weight unity straight pi factorial seaLevel combine grid inside share move sineAlong
 marked-hold = refl
 
 pub others-hold : Hold others
 unfolding others turn misclosure closesAngles inside closes root precision cross nextStation
-doubledTo goodOffsets sumTo
+    doubledTo goodOffsets sumTo
 others-hold = refl
 
 pub products-hold : Hold products
