@@ -55,13 +55,13 @@ answer = record { number = 0; place = 0; legs = 4; w = pos 5; northClosure = neg
 
 pub printed-told : traversed (tapeOf records) 130 ≡ answer
 unfolding nearest sumTo exactSine exactQuarter bySeries series weight unity straight pi factorial
-    around turned folded entry between quarterBy sineBy cross nextStation doubledTo turn misclosure
-closesAngles balanced closes root precision move sineAlong seaLevel combine grid share num bytes
-meant written table kindFields bodyOf numbersOf goodOf bytesOf mayCome roomOf rowNext projectNext
-afterOf takeOf judge stepOf walk readingOf recordsFrom tapeOf pick placeOf angleOf distanceOf isRow
-scaleOf picked run preliminary adjusted withStations offsetsTo areaOf carried misclosureOf
-balancedAt filled balancedTraverse checkedAngles firstOf firstFor closesOn adjustedTraverse
-traversedBy
+    around turned folded entry between quarterBy sineBy cross nextStation doubledTo turn
+    misclosure closesAngles balanced closes root precision move sineAlong seaLevel combine
+    grid share num bytes meant written table kindFields bodyOf numbersOf goodOf bytesOf
+    mayCome roomOf rowNext projectNext afterOf takeOf judge stepOf walk readingOf recordsFrom
+    tapeOf pick placeOf angleOf distanceOf isRow scaleOf picked run preliminary adjusted
+    withStations offsetsTo areaOf carried misclosureOf balancedAt filled balancedTraverse
+    checkedAngles firstOf firstFor closesOn adjustedTraverse traversedBy
 printed-told = refl
 
 -- the five stations, and after them the words as they were lent
@@ -72,10 +72,10 @@ stations = pos 5000000 ∷ pos 200000000 ∷ pos 5100000 ∷ pos 200000000 ∷ p
 pub printed-words : (z : ℤ)
     → traversedWords (tapeOf records) (replicate 130 z) ≡ stations ++ replicate 120 z
 unfolding nearest sumTo exactSine exactQuarter bySeries series weight unity straight pi factorial
-    around turned folded entry between quarterBy sineBy turn misclosure closesAngles balanced closes
-move sineAlong seaLevel combine grid share num bytes meant written table kindFields bodyOf numbersOf
-goodOf bytesOf mayCome roomOf rowNext projectNext afterOf takeOf judge stepOf walk readingOf
-recordsFrom tapeOf pick placeOf angleOf distanceOf isRow scaleOf picked run preliminary adjusted
-withStations carried misclosureOf balancedAt filled balancedTraverse checkedAngles firstOf firstFor
-closesOn adjustedWords traversedWordsBy
+    around turned folded entry between quarterBy sineBy turn misclosure closesAngles balanced
+    closes move sineAlong seaLevel combine grid share num bytes meant written table kindFields
+    bodyOf numbersOf goodOf bytesOf mayCome roomOf rowNext projectNext afterOf takeOf judge
+    stepOf walk readingOf recordsFrom tapeOf pick placeOf angleOf distanceOf isRow scaleOf
+    picked run preliminary adjusted withStations carried misclosureOf balancedAt filled
+    balancedTraverse checkedAngles firstOf firstFor closesOn adjustedWords traversedWordsBy
 printed-words z = refl

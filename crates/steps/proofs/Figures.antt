@@ -90,7 +90,8 @@ Hold figures = map (λ (f : Figure). f .rule) figures ≡ map
 
 pub marked-hold : Hold marked
 unfolding marked sineBy quarterBy between entry nearest exactSine around turned folded exactQuarter
-    bySeries series weight unity straight pi factorial seaLevel combine grid inside share move sineAlong
+    bySeries series weight unity straight pi factorial seaLevel combine grid inside share move
+    sineAlong
 marked-hold = refl
 
 pub others-hold : Hold others
