@@ -82,7 +82,7 @@ pub advanced : (table : List ℕ) (s r : Sums) (m : Moves) (long factor distance
     → Advanced (entryIn table) s factor distance azimuth r
 advanced table s r m long factor distance azimuth a e near turned n w =
     rw (← e) (rw (move-given (entryIn table) north long azimuth m (omega arith) turned n,
-    move-given (entryIn table) east long azimuth m (omega arith) turned w) wordIndex a)
+    move-given (entryIn table) east long azimuth m (omega arith) turned w) at a)
 
 -- ---- a balanced traverse whose fields are in range
 pub leg-sound : (b : Frame) (azimuths distances : List ℕ) (k : ℕ)

@@ -25,8 +25,8 @@ telling t =
     (Adjusted (record {
       legs = t .legs;
       w = record { v = t .w };
-      north = record { v = t .north };
-      east = record { v = t .east };
+      «north_closure» = record { v = t .northClosure };
+      «east_closure» = record { v = t .eastClosure };
       precision = t .precision;
       area = record { v = t .area };
       looped = t .loop;
