@@ -82,7 +82,7 @@ module _ (tape : List ℕ) (number : answered entry tape .number ≡ 0) where
         after = i .0;
         text = λ axis. wordText axis k;
         lines = c .lines;
-        line = rw (c .is) wordIndex (i .1);
+        line = rw (c .is) at (i .1);
         exact = λ axis. sym (ap (plain footDecimals) (read axis k));
         near =
             λ axis. rw (read axis k, station entry tape ownWords number axis k h)
@@ -98,7 +98,7 @@ module _ (tape out left : List ℕ) (r : Page) (s : Showed entry tape out left r
   in-text = text-corner tape (showed-accepts entry tape out left r s accepts) k h
 
   -- in the sheet, which is as many bytes as are told
-  pub sheet-corner : PrintedWithin tape (take (toldSheet r .length) left) k
+  pub sheet-corner : PrintedWithin tape (take (toldSheet r .used) left) k
   sheet-corner = rw (showed-sheet entry tape out left r s accepts) in-text
 
   -- and so in all the lent bytes
