@@ -1,5 +1,5 @@
-"""The text sheet, and the program that prints it (paper 01, The sheet, and one
-printed whole)."""
+"""The text sheet, and the program that prints it (docs/RULES.md, "The sheet, and one
+printed whole")."""
 
 import sys
 from typing import NamedTuple

@@ -1,5 +1,5 @@
-"""The tape: its kinds as data, its reading and its writing (paper 01, The tape
-and Nine refusals)."""
+"""The tape: its kinds as data, its reading and its writing (docs/RULES.md, "The tape", "Nine
+refusals" and "The writer")."""
 
 from typing import NamedTuple, Optional, Union
 

@@ -29,7 +29,7 @@ def examples() -> dict[str, bytes]:
     return {path.stem: path.read_bytes() for path in sorted(EXAMPLES.glob("*.tape"))}
 
 
-# The sheet that paper 01 prints whole
+# The sheet that the rules print whole
 
 
 def printed_fields() -> Fields:

@@ -1,4 +1,4 @@
-"""Paper 01, The sheet, and one printed whole."""
+"""docs/RULES.md, "The sheet, and one printed whole"."""
 
 import subprocess
 import sys

@@ -33,7 +33,7 @@ root-is (suc k) x h = next (root k (x / 4)) x (root-is k (x / 4) (omega (arith, 
         ]
 
 -- ---- the precision number
--- what the paper asks of P, with q for the sum of the closures' squares
+-- what the rules ask of P, with q for the sum of the closures' squares
 pub largest-root : (q s p : ℕ) → 0 < q → WholeRoot (s * s / (100 * q)) p → (p * p * (100 * q) ≤ s * s) × ((k : ℕ) → k * k * (100 * q) ≤ s * s → k ≤ p)
 largest-root q s p h r =
     (le-div-iff-mul-le {k = 100 * q} (omega arith) .0 (r .0), λ k i. below-root (s * s / (100 * q)) p k (le-div-iff-mul-le {k = 100 * q} (omega arith) .1 i) (r .1))
