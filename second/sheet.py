@@ -65,7 +65,7 @@ def printed(tape: bytes) -> str:
 
 
 def write_sheet(tape: bytes, lent: bytearray) -> Sheet:
-    """Write the sheet from the first lent byte on, and nothing behind it.
+    """Write the sheet from the first lent byte on, and nothing after it.
 
     Too few lent bytes are refused before the tape is looked at; a refusal
     leaves the lent bytes as they are.
