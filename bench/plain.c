@@ -379,7 +379,7 @@ uint32_t plain_traverse(const uint8_t *tape, size_t tape_len, int64_t *words, si
     return refusal;
 }
 
-/* ---- The sheet: each of these writes at out and returns the place behind what it wrote. */
+/* ---- The sheet: each of these writes at out and returns where what it wrote ends. */
 
 static uint8_t *put_text(uint8_t *out, const char *text, size_t length) {
     memcpy(out, text, length);

@@ -1,5 +1,6 @@
-/* The desk of paper 01 in plain C, written from the paper alone: an ordinary fast program to measure the proved one
- * against. Each function means what the function of include/vastrudhil.h with the same name behind vas_ means. */
+/* The desk of docs/RULES.md in plain C, written from the rules alone: an ordinary fast program to
+ * measure the proved one against. Each function means what the function of include/vastrudhil.h
+ * means that has the same name after vas_. */
 #ifndef PLAIN_H
 #define PLAIN_H
 

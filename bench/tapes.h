@@ -16,7 +16,7 @@ struct tape {
  * (8), its angle out of range (4). */
 enum fault { NO_FAULT, WRONG_POINT, WRONG_AZIMUTH, WRONG_CLOSE };
 
-/* A loop of 2, 4, .. 64 legs behind 0 to 600 rows, or a line of one leg. */
+/* A loop of 2, 4, .. 64 legs after 0 to 600 rows, or a line of one leg. */
 struct tape traverse_tape(uint32_t legs, uint32_t rows, enum fault fault);
 
 /* A tape of one byte, which is no kind. */

@@ -1,1 +1,1 @@
-"""The second program of the traverse desk, written from paper 01 alone."""
+"""The second program of the traverse desk, written from the rules alone."""

@@ -16,7 +16,7 @@ from .rounding import nearest
 from .sheet import LONGEST_INPUT, refused_line, signed, unsigned
 from .tape import Fields, read_tape
 
-# An angle may be off by 10 seconds, a position by one part in 5,000 (paper 01).
+# An angle may be off by 10 seconds, a position by one part in 5,000 (docs/RULES.md).
 TENTHS_AN_ANGLE = 100
 PARTS = 5_000
 

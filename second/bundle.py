@@ -1,6 +1,6 @@
 """A bundle: many cases in one byte string; and the lines that answer them.
 
-Numbers stand high byte first, and bytes behind their length, two bytes, so that
+Numbers stand high byte first, and bytes after their length, two bytes, so that
 another program can take the same cases without knowing how they were made.
 """
 
@@ -15,7 +15,7 @@ def number(value: int, size: int) -> bytes:
 
 
 def sized(content: bytes) -> bytes:
-    """Bytes behind their length."""
+    """Bytes after their length."""
     return number(len(content), LENGTH_BYTES) + content
 
 

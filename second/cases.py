@@ -1,8 +1,8 @@
 """All cases for comparing another program with this one: one bundle, one output.
 
-`python3 -m second.cases bundle` writes the bundle to standard output: each case behind
+`python3 -m second.cases bundle` writes the bundle to standard output: each case after
 the letter of its subject. `python3 -m second.cases expected` prints what is answered to
-each of them, in order. Letters behind either word leave out all other subjects. How a case
+each of them, in order. Letters after either word leave out all other subjects. How a case
 stands in the bundle, and how it is answered, is said by its subject's module.
 """
 

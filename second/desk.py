@@ -1,5 +1,5 @@
-"""The traverse: from a tape to adjusted coordinates (paper 01, Azimuths and
-legs, Closure and compass rule)."""
+"""The traverse: from a tape to adjusted coordinates (docs/RULES.md, "Azimuths and legs" and
+"Closure and compass rule")."""
 
 from itertools import accumulate
 from typing import NamedTuple, Sequence

@@ -1,7 +1,7 @@
 """Tapes for comparing another program's whole desk with this one.
 
 In a bundle stand how many words are lent (one byte), how many bytes for the sheet (two
-bytes), and the tape behind its length. A case is answered by
+bytes), and the tape after its length. A case is answered by
 
     number place n W C_N C_E P doubled-area loop northing easting ... words-changed
     number place length bytes-changed

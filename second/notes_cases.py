@@ -1,6 +1,6 @@
 """Texts for comparing another program's notes with this one's.
 
-In a bundle a text stands behind its length. It is answered by its tape in hexadecimal
+In a bundle a text stands after its length. It is answered by its tape in hexadecimal
 digits, the canonical text of that tape, whether it is the text given, and what is
 answered to too little room; or by the first slip.
 """
@@ -130,7 +130,7 @@ def item_slips() -> Iterator[bytes]:
 
 
 def order_slips() -> Iterator[bytes]:
-    """Lines taken away, doubled, swapped and put behind the close."""
+    """Lines taken away, doubled, swapped and put after the close."""
     lines = base()
     for at in range(len(lines)):
         yield joined(lines[:at] + lines[at + 1:])

@@ -1,8 +1,8 @@
-"""The ranges stated in paper 01, in its own units.
+"""The ranges that docs/RULES.md states, in its own units.
 
 Angles are tenths of a second, distances thousandths of a foot, coordinates
 hundredths of a foot, factors ten-millionths. The tape and the arithmetic steps
-take their limits from this one place, because the paper states most of them
+take their limits from this one place, because the rules state most of them
 once for both.
 """
 
@@ -28,7 +28,7 @@ CIRCLE = 12_960_000
 HALF_CIRCLE = CIRCLE // 2
 QUADRANT = CIRCLE // 4
 
-# Paper 01, The tape.
+# docs/RULES.md, "The tape".
 MINUTE = Range(0, 5_400)
 FACTOR = Range(9_990_000, 10_010_000)
 ELEVATION = Range(-1_000, 20_000)
@@ -38,14 +38,14 @@ DISTANCE = Range(1_000, 20_000_000)
 ROWS = Range(0, 600)
 LEGS = Range(1, 64)
 
-# Paper 01, Distances.
+# "Distances".
 COMBINED = Range(9_980_000, 10_020_010)
 
-# Paper 01, Azimuths and legs.
+# "Azimuths and legs".
 GRID_DISTANCE = Range(0, 20_100_000)
 MISCLOSURE = size_up_to(HALF_CIRCLE)
 
-# Paper 01, Closure and compass rule.
+# "Closure and compass rule", "Doubled area".
 TOTAL = Range(1, 1_300_000_000)
 TESTED_CLOSURE = size_up_to(1_200_000_000)
 PASSED_CLOSURE = size_up_to(26_000)

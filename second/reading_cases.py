@@ -1,6 +1,6 @@
 """Tapes for comparing another program's reading with this one's.
 
-In a bundle a tape stands behind its length. It is answered by number and place, as
+In a bundle a tape stands after its length. It is answered by number and place, as
 the reading before refusals 8 and 9 tells them.
 """
 

@@ -1,4 +1,4 @@
-"""The one way the desk rounds (paper 01, What the desk computes)."""
+"""The one way the desk rounds (docs/RULES.md, "Units and nearest")."""
 
 from fractions import Fraction
 

@@ -1,5 +1,5 @@
-"""The text sheet, and the program that prints it (paper 01, The sheet, and one
-printed whole)."""
+"""The text sheet, and the program that prints it (docs/RULES.md, "The sheet, and one
+printed whole")."""
 
 import sys
 from typing import NamedTuple
@@ -65,7 +65,7 @@ def printed(tape: bytes) -> str:
 
 
 def write_sheet(tape: bytes, lent: bytearray) -> Sheet:
-    """Write the sheet from the first lent byte on, and nothing behind it.
+    """Write the sheet from the first lent byte on, and nothing after it.
 
     Too few lent bytes are refused before the tape is looked at; a refusal
     leaves the lent bytes as they are.

@@ -1,4 +1,4 @@
-"""Sines: exact by the series, and as the table gives them (paper 01, Sines).
+"""Sines: exact by the series, and as the table gives them (docs/RULES.md, "Sines").
 
 Every angle here is a whole number of tenths of a second; whole turns are taken
 off first. Refusing an angle past the circle is the business of the steps.

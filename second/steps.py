@@ -1,4 +1,4 @@
-"""The public arithmetic steps of paper 01, each by itself.
+"""The public arithmetic steps of the rules, each by itself.
 
 Every step tests its own inputs and gives refusal 4, place 0, outside the range
 stated with it; none leans on its caller. The two tests answer 1 for passed and

@@ -1,5 +1,5 @@
-"""The tape: its kinds as data, its reading and its writing (paper 01, The tape
-and Nine refusals)."""
+"""The tape: its kinds as data, its reading and its writing (docs/RULES.md, "The tape", "Nine
+refusals" and "The writer")."""
 
 from typing import NamedTuple, Optional, Union
 
@@ -61,7 +61,7 @@ class Field(NamedTuple):
 
 
 class Kind(NamedTuple):
-    """A kind byte and what stands behind it."""
+    """A kind byte and what stands after it."""
 
     byte: int
     record: type
@@ -83,7 +83,7 @@ KINDS = (
 KIND_BY_BYTE = {kind.byte: kind for kind in KINDS}
 KIND_BY_RECORD = {kind.record: kind for kind in KINDS}
 
-# What may stand behind what; None is the beginning of the tape.
+# What may stand after what; None is the beginning of the tape.
 MAY_FOLLOW = {
     None: (Row, Project),
     Row: (Row, Project),

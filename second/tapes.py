@@ -29,7 +29,7 @@ def examples() -> dict[str, bytes]:
     return {path.stem: path.read_bytes() for path in sorted(EXAMPLES.glob("*.tape"))}
 
 
-# The sheet that paper 01 prints whole
+# The sheet that the rules print whole
 
 
 def printed_fields() -> Fields:
@@ -284,7 +284,7 @@ def places_of(records: Sequence[Record]) -> list[int]:
 
 
 def with_other_kinds(records: Sequence[Record]) -> Iterator[bytes]:
-    """Each kind byte from 0 to 12 at each record's place and behind the close."""
+    """Each kind byte from 0 to 12 at each record's place and after the close."""
     tape = joined(records)
     for place in places_of(records):
         for kind in range(13):
@@ -331,7 +331,7 @@ def with_faults_in_one_record(records: Sequence[Record]) -> Iterator[bytes]:
 
 
 def after_close(tape: bytes) -> Iterator[bytes]:
-    """Bytes behind the close, few and many."""
+    """Bytes after the close, few and many."""
     for more in (b"\x00", b"\xff", tape[-17:], tape):
         yield tape + more
 
@@ -534,7 +534,7 @@ def with_end_cut(tape: bytes) -> bytes:
     return tape[:-2]
 
 
-def with_byte_behind(tape: bytes) -> bytes:
+def with_byte_after(tape: bytes) -> bytes:
     return tape + b"\x04"
 
 
@@ -546,7 +546,7 @@ FIELD_FAULTS = (
     with_row_again, with_factor_out, with_no_row, with_elevation_out, with_start_out,
     with_leg_out, with_legs_too_many, with_misclosure, with_closure,
 )
-BYTE_FAULTS = (with_close_unknown, with_byte_behind, with_end_cut)
+BYTE_FAULTS = (with_close_unknown, with_byte_after, with_end_cut)
 
 
 def several_faults() -> Iterator[bytes]:

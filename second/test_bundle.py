@@ -12,7 +12,7 @@ class Bundles(unittest.TestCase):
         with self.assertRaises(OverflowError):
             number(256, 1)
 
-    def test_bytes_behind_their_length(self):
+    def test_bytes_after_their_length(self):
         self.assertEqual(sized(b""), b"\x00\x00")
         self.assertEqual(sized(b"ab"), b"\x00\x02ab")
         self.assertEqual(sized(bytes(258))[:2], b"\x01\x02")

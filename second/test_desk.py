@@ -1,4 +1,4 @@
-"""The traverse as a whole: paper 01's figures, limits, slips and refusals 1, 8, 9."""
+"""The traverse as a whole: the rules' figures, limits, slips and refusals 1, 8, 9."""
 
 import unittest
 

@@ -90,7 +90,7 @@ def root_of(lines: list[Line]) -> int:
 
 
 def figure(row: str) -> int:
-    """The number that stands in a row of the paper."""
+    """The number that stands in a row on paper."""
     return int(row.replace(" ", ""))
 
 

@@ -1,4 +1,4 @@
-"""Paper 01, What the desk computes: nearest, a half going away from zero."""
+"""docs/RULES.md, "Units and nearest": nearest, a half going away from zero."""
 
 import unittest
 from fractions import Fraction

@@ -1,4 +1,4 @@
-"""Paper 01, The sheet, and one printed whole."""
+"""docs/RULES.md, "The sheet, and one printed whole"."""
 
 import subprocess
 import sys
@@ -64,7 +64,7 @@ class Text(unittest.TestCase):
 
 
 class Lent(unittest.TestCase):
-    def test_writes_the_text_and_nothing_behind_it(self):
+    def test_writes_the_text_and_nothing_after_it(self):
         lent = bytearray(b"\xaa" * 5_000)
         self.assertEqual(sheet.write_sheet(TAPE, lent), (0, 0, len(PRINTED)))
         self.assertEqual(lent, PRINTED.encode() + b"\xaa" * (5_000 - len(PRINTED)))

@@ -1,4 +1,4 @@
-"""Paper 01, Sines, and the sines among its figures on both sides."""
+"""docs/RULES.md, "Sines", and the sines of its "Figures on both sides"."""
 
 import unittest
 from fractions import Fraction

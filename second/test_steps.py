@@ -1,4 +1,4 @@
-"""The arithmetic steps of paper 01: its figures, its slips and every range."""
+"""The arithmetic steps of the rules: their figures, their slips and every range."""
 
 import unittest
 from random import Random

@@ -1,4 +1,4 @@
-"""Paper 01, The tape and Nine refusals: refusals 1 to 7, their order and places."""
+"""docs/RULES.md, "The tape" and "Nine refusals": refusals 1 to 7, their order and places."""
 
 import unittest
 

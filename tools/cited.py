@@ -62,7 +62,7 @@ def is_name(quoted: str) -> bool:
 
 
 def stands(quoted: str, names: set[str], page: Path) -> bool:
-    """Whether a path or a name is there. A name may be written behind its module, as `desk::traverse`."""
+    """Whether a path or a name is there. A name may be written after its module, as `desk::traverse`."""
     quoted = quoted.removesuffix("()").rstrip("/")
     if "NAME" in quoted or "CRATE" in quoted:
         return True

@@ -1,9 +1,9 @@
 #!/usr/bin/env python3
-"""Checks the pages, README.md and those under docs/: every Markdown link leads to a file, and to a
-heading where it names one; every page under docs/ is linked from the README or from a page that
-the README links; no line has more than 100 columns. Tables, code blocks, lines that are one link
-and what a program makes may be wider. Run from anywhere: tools/pages.py; it prints what it finds,
-and ends with 1 if there is any."""
+"""Checks the pages, every .md file of the repository outside target/ folders: every Markdown link
+leads to a file, and to a heading where it names one; every page is linked from the README or from
+a page that the README links; no line has more than 100 columns. Tables, code blocks, lines that are
+one link and what a program makes may be wider. Run from anywhere: tools/pages.py; it prints what it
+finds, and ends with 1 if there is any."""
 
 import re
 import sys
@@ -12,24 +12,11 @@ from urllib.parse import unquote
 
 ROOT = Path(__file__).resolve().parent.parent
 README = ROOT / "README.md"
-DOCS = ROOT / "docs"
 COLUMNS = 100
 
 # Pages that a program makes whole; parts that one makes stand between two comments, below.
 MADE = {"docs/DOCUMENTS.md"}
 MADE_FROM, MADE_TO = "<!-- made by ", "<!-- end -->"
-
-# Pages that are still wider; each leaves this list when it is next written.
-WIDE = {
-    "docs/CHECKS.md",
-    "docs/NOTES.md",
-    "docs/PROMISES.md",
-    "docs/RULED_OUT.md",
-    "docs/SPEED.md",
-    "docs/landings/base.md",
-    "docs/landings/owed.md",
-    "docs/landings/shapes.md",
-}
 
 LINK = re.compile(r"!?\[[^\]]*\]\(\s*<?([^)<>\s]+)>?(?:\s+\"[^\"]*\")?\s*\)")
 LINK_ALONE = re.compile(r"\s*(?:[-*] )?" + LINK.pattern + r"[.,;]?\s*")
@@ -37,6 +24,13 @@ LINK_ALONE = re.compile(r"\s*(?:[-*] )?" + LINK.pattern + r"[.,;]?\s*")
 
 def name(page: Path) -> str:
     return page.relative_to(ROOT).as_posix()
+
+
+def every_page() -> list[Path]:
+    """The pages of the repository, in the order of their names."""
+    found = (page.relative_to(ROOT) for page in ROOT.rglob("*.md"))
+    kept = (page for page in found if not {"target", ".git"} & set(page.parts))
+    return [ROOT / page for page in sorted(kept)]
 
 
 def prose(page: Path) -> list[tuple[int, str]]:
@@ -113,7 +107,7 @@ def may_be_wide(line: str) -> bool:
 
 def wide(page: Path) -> list[str]:
     """The lines of a page that are too wide."""
-    if name(page) in MADE | WIDE:
+    if name(page) in MADE:
         return []
     return [
         f"{name(page)}:{number}: {len(line)} columns"
@@ -123,7 +117,7 @@ def wide(page: Path) -> list[str]:
 
 
 def main() -> None:
-    pages = [README, *sorted(DOCS.rglob("*.md"))]
+    pages = every_page()
     wrong = [*(fault for page in pages for fault in lost(page) + wide(page)), *unreached(pages)]
     if wrong:
         sys.exit("\n".join(["the pages:", *wrong]))

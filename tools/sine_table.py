@@ -1,5 +1,5 @@
 #!/usr/bin/env python3
-"""The table of sines, made from the rule of paper 01 ("Sines") with exact integers.
+"""The table of sines, made by the rule of docs/RULES.md, "Sines", with exact integers.
 
 The nine-decimal sine of every whole minute from 0 to 90 degrees is the nearest to the exact sine:
 the sine's series through the 19th power up to and including 45 degrees, the cosine's of the

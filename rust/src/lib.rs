@@ -2,8 +2,8 @@
 //!
 //! A *tape* is a list of bytes with the zone rows, the project, the start, the legs and the close
 //! of a survey traverse. The desk answers it with the adjusted traverse, or refuses it with a
-//! number and a place. The rules are those of paper 01; that the desk keeps them is proved, and
-//! this crate only hands its functions on, in memory that Rust looks after.
+//! number and a place. The rules are those of `docs/RULES.md`; that the desk keeps them is proved,
+//! and this crate only hands its functions on, in memory that Rust looks after.
 //!
 //! ```
 //! # fn main() -> Result<(), vastrudhil::Refusal> {
@@ -66,7 +66,7 @@ use std::fmt;
 /// How many bytes a lent sheet must have: [`sheet_into`].
 pub const SHEET: usize = sys::SHEET;
 
-/// Why the desk does not answer, and where (paper 01, Nine refusals).
+/// Why the desk does not answer, and where (`docs/RULES.md`, "Nine refusals").
 #[derive(Clone, Copy, Debug, PartialEq, Eq, Hash)]
 pub struct Refusal {
     /// Which of the nine refusals it is: 1 to 9.
@@ -122,7 +122,7 @@ fn valued<T: Default>(call: impl FnOnce(&mut T) -> u32) -> Result<T, Refusal> {
     Ok(value)
 }
 
-// ---- distances (paper 01, Distances)
+// ---- distances (docs/RULES.md, "Distances")
 
 /// The sea level factor of a mean elevation of -1,000..20,000 feet.
 pub fn sea_level(elevation: i64) -> Result<u64, Refusal> {
@@ -141,7 +141,7 @@ pub fn grid(distance: u64, factor: u64) -> Result<u64, Refusal> {
     valued(|value| sys::vas_grid(distance, factor, value))
 }
 
-// ---- sines (paper 01, Sines)
+// ---- sines (docs/RULES.md, "Sines")
 
 /// The desk's own table of sines, one for every whole minute from 0 to 90 degrees.
 ///
@@ -196,7 +196,7 @@ pub fn cosine_in(table: &Table, angle: u32) -> Result<i64, Refusal> {
     valued(|value| sys::vas_cosine_in(&table.0, angle, value))
 }
 
-// ---- azimuths (paper 01, Azimuths and legs)
+// ---- azimuths (docs/RULES.md, "Azimuths and legs")
 
 /// The azimuth of leg 1, from the azimuth to the mark and the angle right.
 pub fn from_mark(mark: u32, angle: u32) -> Result<u64, Refusal> {
@@ -230,7 +230,7 @@ pub fn balanced(azimuth: u32, share: i64) -> Result<u64, Refusal> {
     valued(|value| sys::vas_balanced(azimuth, share, value))
 }
 
-// ---- latitude and departure (paper 01, Azimuths and legs)
+// ---- latitude and departure (docs/RULES.md, "Azimuths and legs")
 
 /// The latitude, how far north, of a grid distance of 0..20,100,000 along an azimuth.
 pub fn latitude(distance: u64, azimuth: u32) -> Result<i64, Refusal> {
@@ -252,7 +252,7 @@ pub fn departure_in(table: &Table, distance: u64, azimuth: u32) -> Result<i64, R
     valued(|value| sys::vas_departure_in(&table.0, distance, azimuth, value))
 }
 
-// ---- closure and compass rule (paper 01, Closure and compass rule)
+// ---- closure and compass rule (docs/RULES.md, "Closure and compass rule")
 
 /// Whether closures of size up to 1,200,000,000 are within the limit, for a sum `s` of grid
 /// distances of 1..1,300,000,000.
@@ -280,7 +280,7 @@ pub fn doubled_area(offsets: &[[i64; 2]]) -> Result<i64, Refusal> {
     valued(|value| unsafe { sys::vas_doubled_area(words.as_ptr(), words.len(), value) })
 }
 
-// ---- writing a tape (paper 01, The tape)
+// ---- writing a tape (docs/RULES.md, "The writer")
 
 /// A tape under way: records are put one after the other, each by the desk's own writer.
 ///

@@ -1,4 +1,4 @@
-//! The wrapper answers as paper 01 does: its printed figures, its printed sheet, its refusals.
+//! The crate answers as docs/RULES.md says: its printed figures, its printed sheet, its refusals.
 
 use std::sync::Barrier;
 use std::thread;
@@ -84,7 +84,7 @@ CLOSE W=+0.5 N=-0.01 E=+0.02 P=178886
 AREA2 2000020.0000
 ";
 
-// ---- paper 01, Figures on both sides
+// ---- docs/RULES.md, "Figures on both sides"
 
 #[test]
 fn sines() {
@@ -173,7 +173,7 @@ fn steps_refuse_what_is_out_of_range() {
     assert_eq!(doubled_area(&[[0, 0]; 65]), refused(4, 0));
 }
 
-// ---- paper 01, The sheet, and one printed whole
+// ---- docs/RULES.md, "The sheet, and one printed whole"
 
 #[test]
 fn printed_sheet() {
@@ -211,7 +211,7 @@ fn a_lent_sheet_is_written_at_its_front_only() {
     assert!(lent[PRINTED.len()..].iter().all(|&byte| byte == 7));
 }
 
-// ---- paper 01, Nine refusals
+// ---- docs/RULES.md, "Nine refusals"
 
 #[test]
 fn refusals_of_a_tape() {

@@ -1,4 +1,4 @@
--- The forms without a lent table: what the desk's own table gives is the paper's, and a tape whose
+-- The forms without a lent table: what the desk's own table gives is the rules', and a tape whose
 -- angles do not close is refused before the table is laid out.
 use mathlib.Core.Path.{_≡_, refl, _∙_, ap, subst}
 use mathlib.Core.Bool.{Bool, false}
@@ -24,7 +24,7 @@ use Rattle.desk.specs.declared.Page.the-variants.{Refused}
 use Rattle.desk.proofs.Carrying.{checked-fails}
 use Rattle.desk.proofs.Paging.{showed}
 
--- ---- by the desk's own table every entry is the paper's
+-- ---- by the desk's own table every entry is the rules'
 module _ (t : List ℕ) (right : Table t) where
   pub own-told : (x : First) (r : Answer) → toldTraverse r ≡ afterFirst (entryIn t) x
       → toldTraverse r ≡ afterFirst entry x

@@ -1,6 +1,6 @@
--- Paper 01, "The sheet, and one printed whole": what the written rules give of the printed tape is
--- what the paper prints, computed by antt from the definitions. The tape is read, checked,
--- balanced, run, closed and adjusted by them; no code is run.
+-- docs/RULES.md, "The sheet, and one printed whole": the figures and stations that the definitions
+-- give of the tape there are those of the sheet there, computed by antt. The definitions read,
+-- check, balance, run, close and adjust the tape; no code is run.
 use mathlib.Core.Path.{_≡_, refl}
 use mathlib.Core.Bool.{true}
 use mathlib.Core.List.{List, [], _∷_, _++_}

@@ -1,6 +1,6 @@
--- Paper 01, "The sheet, and one printed whole": what the written rules print of the printed tape is
--- the printed sheet, byte for byte, computed by antt from the definitions; and a tape of no bytes
--- is printed as its refusal.
+-- docs/RULES.md, "The sheet, and one printed whole": what the definitions print of the tape there
+-- is the sheet there, byte for byte, computed by antt; and a tape of no bytes is printed as its
+-- refusal.
 use Prim.Native.Nat.{ℕ, _^_, _<_}
 use native.Mathlib.Omega.{arith}
 use mathlib.Core.Path.{_≡_, refl, _∙_, ap}

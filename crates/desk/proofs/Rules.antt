@@ -1,5 +1,5 @@
--- The figures of an accepted traverse have the paper's rules, said by the rules' own properties and
--- of the answer itself: W is the misclosure, each balanced azimuth is the carried one less its
+-- The figures of an accepted traverse keep the rules, said by the rules' own properties and of the
+-- answer itself: W is the misclosure, each balanced azimuth is the carried one less its
 -- share of W, and the precision number is the largest that the closures allow. `x` is any answer
 -- that the promise of `traverse` or `traverse_in` allows, and its number is 0.
 use Prim.Native.Nat.{ℕ, _+_, _≤_, _<_}

@@ -91,7 +91,7 @@ all-held : (rs : List Record) → Good (recs rs) → AllHeld rs
 all-held [] g = tt
 all-held (r ∷ rs) g = (held r (g .0), all-held rs (g .1))
 
--- ---- records in the paper's order, each in range
+-- ---- records in the rules' order, each in range
 abbrev Made-all : List Rec → Type 0
 Made-all rs = (given : List Record) × (recs given ≡ rs)
 

@@ -199,7 +199,7 @@ sine-twelve a h =
             (v *ℤ u -ℤ pos 1000000000 *ℤ x)
         turn v x u = ring (v ∷ x ∷ u ∷ []) (λ w. search exps) tt
 
--- ---- the promise of paper 01
+-- ---- the bound of docs/RULES.md, "Sines": 20 units
 pub sine-near : (a : ℕ) → a < circle → Within units (sineBy entry a) (exactSine a)
 sine-near a h = omega (arith, sine-twelve a h)
 

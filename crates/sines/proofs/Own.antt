@@ -1,5 +1,5 @@
 -- The entries of a table: each is a natural number of at most a billion, so that no sine is above
--- 1, in the paper's table and in any that is lent; and the desk's own table, lent, has the paper's
+-- 1, in the rules' table and in any that is lent; and the desk's own table, lent, has the rules'
 -- entries.
 use mathlib.Core.Path.{_≡_, refl, sym, _∙_, ap, fun-ext}
 use mathlib.Core.List.{List}
@@ -47,7 +47,7 @@ lent-entries t =
       );
     }
 
--- those of the desk's own table are the paper's
+-- the entries of the desk's own table are the rules'
 pub own-entries : (t : List ℕ) → Table t → entryIn t ≡ entry
 own-entries t right = fun-ext same
   where
@@ -75,7 +75,7 @@ pub lent-quarter : (t : List ℕ) (a m r v : ℕ) → a ≡ 600 * m + r → r �
     → pos v ≡ between (entryIn t m) (entryIn t (m + 1)) r → pos v ≡ quarterBy (entryIn t) a
 lent-quarter t a m r v past h g = g ∙ sym (from-minute (entryIn t) a m r past h)
 
--- ---- so what the desk's own table tells is the paper's
+-- ---- so what the desk's own table tells is the rules'
 module _ (t : List ℕ) (right : Table t) (a : ℕ) (r : Amount) where
   pub own-sine : toldAmount r ≡ ofAngle a (sineBy (entryIn t) a)
       → toldAmount r ≡ ofAngle a (sineBy entry a)

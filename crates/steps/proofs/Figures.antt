@@ -1,7 +1,7 @@
--- Paper 01, "Figures on both sides": what the written rules give is what the paper prints. The
--- cases marked P are one claim over one list, `marked`; the other figures of the steps stand in
--- `others`, those of paper 02, b in `products`. All are computed by antt from the definitions. A
--- further case is one line.
+-- docs/RULES.md, "Figures on both sides": what the definitions give is what the rules print. The
+-- figures marked P are one claim over one list, `marked`; the other figures of the steps stand in
+-- `others`, and those of the combined factor in `products`. All are computed by antt from the
+-- definitions. A further figure is one line.
 use mathlib.Core.Path.{_≡_, refl}
 use mathlib.Core.List.{List, [], _∷_, map}
 use Prim.Native.Nat.{ℕ, _+_, _*_}
@@ -23,7 +23,7 @@ use Rattle.steps.specs.Root.{digitTo, withPair, worked}
 use Rattle.steps.specs.Closure.{closes, root, precision, closureTest, precisionStep}
 use Rattle.steps.specs.Area.{cross, nextStation, doubledTo, goodOffsets, areaStep}
 
--- a figure: what a step tells by the rules, and the number that the paper prints
+-- a figure: what a step tells by the definitions, and the number that the rules print
 pub record Figure : Type 0 where
   pub rule : ToldStep
   pub paper : ℤ
@@ -61,7 +61,7 @@ marked =
     ∷ fig (shareStep (negℤ (pos 30)) 2636200 5276590) (negℤ (pos 15))
     ∷ []
 
--- the steps of the paper's other figures, and of the sheet that it prints whole
+-- the steps of the rules' other figures, and of the sheet that they print whole
 pub others : List Figure
 others =
     fig (misclosureStep 12959999 0) (negℤ (pos 1))
@@ -75,7 +75,8 @@ others =
     100000 ∷ [])) (pos 20000200000)
     ∷ []
 
--- paper 02, b: the client's yard at 7,000 feet, and the two products that document 002 works out
+-- the combined factor: the client's yard at 7,000 feet, and two products that document 002 works
+-- out
 pub products : List Figure
 products =
     fig (seaLevelStep (pos 7000)) (pos 9996653)

@@ -38,7 +38,7 @@ root-is (suc k) x h = next (root k (x / 4)) x (root-is k (x / 4) (omega (arith, 
         ]
 
 -- ---- the precision number
--- what the paper asks of P, with q for the sum of the closures' squares
+-- what the rules ask of P, with q for the sum of the closures' squares
 pub largest-root : (q s p : ℕ) → 0 < q → WholeRoot (s * s / (100 * q)) p
     → (p * p * (100 * q) ≤ s * s) × ((k : ℕ) → k * k * (100 * q) ≤ s * s → k ≤ p)
 largest-root q s p h r =

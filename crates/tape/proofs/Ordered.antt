@@ -1,5 +1,5 @@
--- The records of a tape that reads stand in the paper's order, and the last state counts them. It
--- goes by what a record that is taken does to the reader's state.
+-- The records of a tape that reads stand in the rules' order, and the last state counts them. The
+-- proof goes by what a record that is taken does to the reader's state.
 use Prim.Native.Nat.{ℕ, _+_, _≤_, _<_}
 use native.Mathlib.Omega.{arith}
 use mathlib.Core.Path.{_≡_, refl, sym, _∙_, ap}

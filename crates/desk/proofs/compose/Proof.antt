@@ -1,5 +1,5 @@
 -- `compose` meets its contract: where the angles do not close it is refused, and else the entries
--- of the table that it lends are the paper's.
+-- of the table that it lends are the rules'.
 use borrow.Author.Needs.{needs}
 use Rattle.desk.proofs.OwnTable.{own-showed, fails-showed}
 use Rattle.desk.proofs.compose.Statement.{statement}

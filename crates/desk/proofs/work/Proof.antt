@@ -1,5 +1,5 @@
 -- `work` meets its contract: where the angles do not close it is refused, and else the entries of
--- the table that it lends are the paper's.
+-- the table that it lends are the rules'.
 use borrow.Author.Needs.{needs}
 use Rattle.desk.proofs.OwnTable.{own-told, own-words, fails-told, fails-words}
 use Rattle.desk.proofs.work.Statement.{statement}

@@ -1,4 +1,4 @@
--- `cosine` meets its contract: by the desk's own table the cosine is the paper's.
+-- `cosine` meets its contract: by the desk's own table the cosine is the rules'.
 use borrow.Author.Needs.{needs}
 use Rattle.answer.specs.Told.{toldAmount}
 use Rattle.sines.proofs.Own.{own-cosine}

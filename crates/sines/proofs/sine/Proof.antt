@@ -1,4 +1,4 @@
--- `sine` meets its contract: by the desk's own table the sine is the paper's.
+-- `sine` meets its contract: by the desk's own table the sine is the rules'.
 use borrow.Author.Needs.{needs}
 use Rattle.answer.specs.Told.{toldAmount}
 use Rattle.sines.proofs.Own.{own-sine}

@@ -1,4 +1,4 @@
--- `closes_angles` meets its contract: the size is compared as the paper says.
+-- `closes_angles` meets its contract: the size is compared as the rules say.
 use borrow.Author.Needs.{needs}
 use Rattle.answer.proofs.Telling.{ranges}
 use Rattle.steps.specs.Azimuth.{closesAngles}

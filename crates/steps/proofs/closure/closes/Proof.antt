@@ -1,4 +1,4 @@
--- `closes` meets its contract: each test is a bound of the range, and the inequality of the paper
+-- `closes` meets its contract: each test is a bound of the range, and the inequality of the rules
 -- holds just where it holds divided by 50,000 squared.
 use borrow.Author.Needs.{needs}
 use Rattle.answer.proofs.Telling.{ranges}
