@@ -106,7 +106,24 @@ size-yes n k z e h = rw (← e) (le-leb n k h)
 pub size-no : (n k : ℕ) (z : ℤ) → n ≡ natAbs z → k < n → leb (natAbs z) k ≡ false
 size-no n k z e h = rw (← e) (lt-leb n k h)
 
-pub ruleset ranges =
-    (tells, counts, passing, failing, refuses, refuses-count, refuses-verdict, both, not-first,
-    not-second, inside-yes, inside-low, inside-high, size-yes, size-no, le-leb, lt-leb, lt-ltb,
-    le-ltb)
+pub ruleset ranges = (
+  tells,
+  counts,
+  passing,
+  failing,
+  refuses,
+  refuses-count,
+  refuses-verdict,
+  both,
+  not-first,
+  not-second,
+  inside-yes,
+  inside-low,
+  inside-high,
+  size-yes,
+  size-no,
+  le-leb,
+  lt-leb,
+  lt-ltb,
+  le-ltb,
+)

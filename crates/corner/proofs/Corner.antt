@@ -47,10 +47,15 @@ module _ (b : Balanced) (sound : Sound b) (axis : Axis) (k : ℕ) (h : k ≤ b .
   station-near =
       let m = longerSide (b .legs) k in
       let s = stands 50 perLeg fine (line entry axis b) (exactLine axis b .move) leg-off k m h
-          (before-it (b .legs) k) (after-it (b .legs) k) (far-run b sound) in
-      record { meant = omega
-          (arith, product-most 1 1 fine (run (longOf b) (b .legs)) fine-positive (far-run b sound));
-          near = omega (arith, s) }
+      (before-it (b .legs) k) (after-it (b .legs) k) (far-run b sound) in
+      record {
+        meant = omega (
+          arith,
+          product-most 1 1 fine (run (longOf b) (b .legs)) fine-positive
+              (far-run b sound),
+        );
+        near = omega (arith, s);
+      }
 
 -- ---- x and l are what the promise of `traverse` allows for the tape and the lent words
 module _ (tape : List ℕ) (words l : List ℤ) (x : Answer)

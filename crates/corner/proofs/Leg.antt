@@ -44,13 +44,21 @@ near-leg u c g w d m s x plenty most h i =
     let t = s *ℤ pos w -ℤ pos 1000000000 *ℤ x in
     let y = negℤ (x *ℤ pos d) -ℤ pos (10 * w) *ℤ m in
     let e : pos 1000000000 *ℤ y ≡ pos w *ℤ r +ℤ pos d *ℤ t =
-        ring (pos d ∷ pos w ∷ m ∷ s ∷ x ∷ []) (λ v. search exps depth 20) tt in
+    ring (pos d ∷ pos w ∷ m ∷ s ∷ x ∷ []) (λ v. search exps depth 20) tt in
     let n : 1000000000 * natAbs y ≤ (5000000000 + longest * u) * w
-    = omega (arith, ap natAbs e, abs-mul (pos 1000000000) y, triangle (pos w *ℤ r) (pos d *ℤ t),
-    abs-mul (pos w) r, abs-mul (pos d) t, mul-le-mul-left w h, mul-le-mul-left d i,
-    mul-le-mul-right (u * w) most) in
+    = omega (
+      arith,
+      ap natAbs e,
+      abs-mul (pos 1000000000) y,
+      triangle (pos w *ℤ r) (pos d *ℤ t),
+      abs-mul (pos w) r,
+      abs-mul (pos d) t,
+      mul-le-mul-left w h,
+      mul-le-mul-left d i,
+      mul-le-mul-right (u * w) most,
+    ) in
     let b : 1000000000 * (g * natAbs y) ≤ 1000000000 * (c * (10 * w)) =
-        omega (arith, mul-le-mul-left g n, mul-le-mul-right w plenty) in
+    omega (arith, mul-le-mul-left g n, mul-le-mul-right w plenty) in
     le-of-mul-le-mul-left b (omega arith)
 
 pub fine-positive : 0 < fine

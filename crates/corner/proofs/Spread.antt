@@ -25,8 +25,14 @@ sized-times w r x = rw (abs-mul (pos r) x) (omega arith)
 convex : (w : ℕ) (x y : ℤ) (r t b : ℕ) → w * natAbs x ≤ b → w * natAbs y ≤ b
     → w * natAbs (pos r *ℤ x +ℤ pos t *ℤ y) ≤ (r + t) * b
 convex w x y r t b h k =
-    omega (arith, sized-sum w (pos r *ℤ x) (pos t *ℤ y), sized-times w r x, sized-times w t y,
-    mul-le-mul-left r h, mul-le-mul-left t k)
+    omega (
+      arith,
+      sized-sum w (pos r *ℤ x) (pos t *ℤ y),
+      sized-times w r x,
+      sized-times w t y,
+      mul-le-mul-left r h,
+      mul-le-mul-left t k,
+    )
 
 -- a sequence that moves by at most b a step, over m steps from j on
 drift : (w : ℕ) (f : ℕ → ℤ) (b n j m : ℕ) → ((i : ℕ) → i < n → w * natAbs (f (suc i) -ℤ f i) ≤ b)
@@ -36,9 +42,13 @@ drift w f b n j zero near h = let z : j + 0 ≡ j = omega arith in
 drift w f b n j (suc m) near h =
     let z : j + suc m ≡ suc (j + m) = omega arith in
     let e : f (suc (j + m)) -ℤ f j ≡ (f (suc (j + m)) -ℤ f (j + m)) +ℤ (f (j + m) -ℤ f j) =
-        ring (f (suc (j + m)) ∷ f (j + m) ∷ f j ∷ []) (λ v. search exps) tt in
-    rw (z, e) (omega (arith, sized-sum w (f (suc (j + m)) -ℤ f (j + m)) (f (j + m) -ℤ f j),
-    near (j + m) (omega arith), drift w f b n j m near (omega arith)))
+    ring (f (suc (j + m)) ∷ f (j + m) ∷ f j ∷ []) (λ v. search exps) tt in
+    rw (z, e) (omega (
+      arith,
+      sized-sum w (f (suc (j + m)) -ℤ f (j + m)) (f (j + m) -ℤ f j),
+      near (j + m) (omega arith),
+      drift w f b n j m near (omega arith),
+    ))
 
 -- ---- p and q are the preliminary places at a station and at the end, p′ and q′ the exact ones, c
 -- the fixed end, s the share, t and r what is run before and after
@@ -55,8 +65,13 @@ together : (g c : ℕ) (x y z : ℤ) (u t r m : ℕ) → 2 * natAbs z ≤ t + r
     → 2 * g * natAbs x ≤ m * (c * u) → 2 * g * natAbs y ≤ m * (c * u)
     → 2 * g * natAbs (pos u *ℤ z +ℤ (pos r *ℤ x +ℤ pos t *ℤ y)) ≤ (c * m + g) * (u * (t + r))
 together g c x y z u t r m h i j =
-    omega (arith, sized-sum (2 * g) (pos u *ℤ z) (pos r *ℤ x +ℤ pos t *ℤ y),
-    sized-times (2 * g) u z, mul-le-mul-left (g * u) h, convex (2 * g) x y r t (m * (c * u)) i j)
+    omega (
+      arith,
+      sized-sum (2 * g) (pos u *ℤ z) (pos r *ℤ x +ℤ pos t *ℤ y),
+      sized-times (2 * g) u z,
+      mul-le-mul-left (g * u) h,
+      convex (2 * g) x y r t (m * (c * u)) i j,
+    )
 
 spread : (g c : ℕ) (a p p′ q q′ z s : ℤ) (u t r w m : ℕ) → w ≡ t + r
     → 2 * natAbs ((q -ℤ z) *ℤ pos t -ℤ s *ℤ pos w) ≤ w
@@ -75,8 +90,13 @@ spread g c a p p′ q q′ z s u t r w m e h i j =
 module _ (g c u : ℕ) (l : Line) (exact : ℕ → ℤ) (near : (i : ℕ) → i < l .legs
     → 2 * g * natAbs (exact i -ℤ pos u *ℤ l .move i) ≤ c * u) where
   abbrev finer : Line
-  finer = record { from = pos u *ℤ l .from; to = pos u *ℤ l .to; legs = l .legs; move = exact;
-      long = l .long }
+  finer = record {
+    from = pos u *ℤ l .from;
+    to = pos u *ℤ l .to;
+    legs = l .legs;
+    move = exact;
+    long = l .long;
+  }
 
   -- what the roundings of the legs before station k have moved its preliminary place
   abbrev lost : ℕ → ℤ
@@ -101,8 +121,11 @@ module _ (g c u : ℕ) (l : Line) (exact : ℕ → ℤ) (near : (i : ℕ) → i 
       → 2 * g * natAbs (lost (l .legs) -ℤ lost k) ≤ m * (c * u)
   after k m h more =
       let z : k + (l .legs - k) ≡ l .legs = omega arith in
-      omega (arith, rw z at (lost-over k (l .legs - k) (omega arith)),
-      mul-le-mul-right (c * u) more)
+      omega (
+        arith,
+        rw z at (lost-over k (l .legs - k) (omega arith)),
+        mul-le-mul-right (c * u) more,
+      )
 
   -- m is at least the number of legs before the station, and of those after it
   pub stands : (k m : ℕ) → k ≤ l .legs → k ≤ m → l .legs - k ≤ m → 0 < runAll l

@@ -74,8 +74,12 @@ module _ (e : ℕ → ℤ) (tape : List ℕ) (room : ℕ) where
           (fieldsOf tape .line .legs))
           (λ a.
           by-test Shown (closesOn e (balancedTape tape))
-              (λ c z. record { wide = wide; reads = record { last = st; reads = h }; angles = a;
-              closes = c })
+          (λ c z. record {
+            wide = wide;
+            reads = record { last = st; reads = h };
+            angles = a;
+            closes = c;
+          })
           (λ c z. absurd (omega arith)))
           (λ a z. absurd (omega arith))
 
@@ -119,7 +123,7 @@ module _ (e : ℕ → ℤ) (tape : List ℕ) (room : ℕ) where
       let f = fieldsOf tape in
       let sound = accepted-sound a in
       let near : (axis : Axis) → natAbs (closure (line e axis b)) ≤ 26000 =
-          λ axis. closes-near b sound e axis (a .closes) in
+      λ axis. closes-near b sound e axis (a .closes) in
       let run = run-small b sound in
       rw (accepted-told a, a .closes)
       (record {
@@ -127,8 +131,10 @@ module _ (e : ℕ → ℤ) (tape : List ℕ) (room : ℕ) where
         w = misclosure-most _ (f .closing .given);
         north = near north;
         east = near east;
-        precision = omega (arith,
-            precision-most (northClosure e b) (eastClosure e b) (distanceRun b) (omega arith));
+        precision = omega (
+          arith,
+          precision-most (northClosure e b) (eastClosure e b) (distanceRun b) (omega arith),
+        );
         area = area-most e entries b sound near;
       })
 

@@ -155,5 +155,5 @@ module _ (e : ℕ → ℤ) (s t : List ℕ) (a : DoesRead s) (b : DoesRead t)
       go true = refl
       go false =
           let h = by-bare (λ u. wordsFrom e u words) (rw (angles-bare f, words-bare e f words))
-              (rw (angles-bare g, words-bare e g words)) in
+          (rw (angles-bare g, words-bare e g words)) in
           rw (a .reads, b .reads, words-from e f words, words-from e g words, h)

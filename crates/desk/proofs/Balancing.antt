@@ -132,13 +132,13 @@ module _ (f : Fields) where
   unfolding balancedTraverse
   leg-measured k h few =
       filled-at (distanceAt f) zeros (f .line .legs) k
-          (omega (arith, length-replicate {A = ℕ} 64 0)) h
+      (omega (arith, length-replicate {A = ℕ} 64 0)) h
 
   pub sound-of : Ready f → Sound (balancedTraverse f)
   unfolding balancedTraverse
   sound-of r =
       let s = combined-range (f .site .elevation .v) (f .site .scale) (r .elevation) (r .scale-low)
-          (r .scale-high) in
+      (r .scale-high) in
       record {
         some = r .some;
         few = r .few;

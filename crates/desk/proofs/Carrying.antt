@@ -102,7 +102,7 @@ module _ (tape : List ℕ) (c : Control) (known : Known tape c) where
             is = e;
             stands =
                 rw (ap (λ (x : Sight). x .next) (h .is))
-                    (leg-next tape (known .reads) k (h .at) (h .stands) under);
+                (leg-next tape (known .reads) k (h .at) (h .stands) under);
           }
 
       pub distance-next : (l m : List ℕ) → l ≡ filled (distanceAt f) k m
@@ -110,7 +110,7 @@ module _ (tape : List ℕ) (c : Control) (known : Known tape c) where
       distance-next l m i =
           filled-on (distanceAt f) m k (s .distance) l i
           (ap (λ (x : Sight). x .distance) (h .is) ∙ leg-distance tape (known .reads) k (h .at)
-              (h .stands) under)
+          (h .stands) under)
 
   pub first-turned : (s : Sight) → s ≡ sightAt tape (c .line) → s .angle < circle
   first-turned s e = sight-turned 0 s (first-sight s e) (omega arith)

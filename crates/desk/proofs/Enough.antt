@@ -27,8 +27,8 @@ enough tape =
     ⊎-elim (λ (none : length tape - tapeBytes ≡ 0). rw (take-all tapeBytes tape (omega arith)))
     (λ (more : 0 < length tape - tapeBytes).
     let c = long-cut (take tapeBytes tape) (drop tapeBytes tape)
-        (omega (arith, length-take-le tapeBytes tape (omega arith))) in
+    (omega (arith, length-take-le tapeBytes tape (omega arith))) in
     let whole : readingOf tape ≡ Refused (c .number) (c .place) =
-        rw (take-append-drop tapeBytes tape) at (c .whole) in
+    rw (take-append-drop tapeBytes tape) at (c .whole) in
     refused-printed _ _ _ (c .short) ∙ sym (refused-printed tape _ _ whole))
     (eq-zero-or-pos (length tape - tapeBytes))

@@ -23,17 +23,25 @@ close-most : (w n e : ℤ) (p : ℕ) → natAbs w < 10 ^ 19 → natAbs n < 10 ^ 
 unfolding closeLine closures
 close-most w n e p f g h i =
     simp length-append
-    (omega (arith, amount-most (ascii "+") 1 18 w (omega arith) f,
-    amount-most (ascii "+") 2 18 n (omega arith) g, amount-most (ascii "+") 2 18 e (omega arith) h,
-    decimal-most 18 p i))
+    (omega (
+      arith,
+      amount-most (ascii "+") 1 18 w (omega arith) f,
+      amount-most (ascii "+") 2 18 n (omega arith) g,
+      amount-most (ascii "+") 2 18 e (omega arith) h,
+      decimal-most 18 p i,
+    ))
 
 station-most : (k : ℕ) (n e : ℤ) → k < 100 → natAbs n < 2 ^ 40 → natAbs e < 2 ^ 40
     → length (stationLine k n e) ≤ 40
 unfolding stationLine
 station-most k n e h f g =
     simp length-append
-    (omega (arith, decimal-most 1 k h, amount-most [] 2 12 n (omega arith) (omega arith),
-    amount-most [] 2 12 e (omega arith) (omega arith)))
+    (omega (
+      arith,
+      decimal-most 1 k h,
+      amount-most [] 2 12 n (omega arith) (omega arith),
+      amount-most [] 2 12 e (omega arith) (omega arith),
+    ))
 
 area-most : (z : ℤ) (loop : Bool) → natAbs z < 10 ^ 19 → length (areaLine z loop) ≤ 40
 unfolding areaLine
@@ -53,9 +61,12 @@ stations-most words (suc k) h small =
     let n = getD words (wordIndex north k) (pos 0) in
     let e = getD words (wordIndex east k) (pos 0) in
     let before = stations-most words k (omega arith) (λ axis j i. small axis j (omega arith)) in
-    simp length-append (omega
-    (arith, before, station-most k n e (omega arith) (small north k (omega arith))
-    (small east k (omega arith))))
+    simp length-append (omega (
+      arith,
+      before,
+      station-most k n e (omega arith) (small north k (omega arith))
+          (small east k (omega arith)),
+    ))
 
 text-most : (t : ToldTraverse) (words : List ℤ) → Sized t → Small words (t .legs + 1)
     → length (textOf t words) ≤ 4096
@@ -66,7 +77,7 @@ text-most t words s small =
       arith,
       s .legs,
       close-most (t .w) (t .northClosure) (t .eastClosure) (t .precision) (omega (arith, s .w))
-      (omega (arith, s .north)) (omega (arith, s .east)) (omega (arith, s .precision)),
+          (omega (arith, s .north)) (omega (arith, s .east)) (omega (arith, s .precision)),
       stations-most words (t .legs + 1) (omega (arith, s .legs)) small,
       area-most (t .area) (t .loop) (omega (arith, s .area)),
     ))

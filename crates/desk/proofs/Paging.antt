@@ -82,7 +82,7 @@ module _ (e : ℕ → ℤ) (tape out : List ℕ) where
   module _ (wide : 4096 ≤ length out) (c : Control) (known : Known tape c) (words : List ℤ)
       (x : Answer)
       (g : toldTraverse x ≡ afterFirst e (checkedAngles (fieldsOf tape)))
-          (f : words ≡ wordsAfterFirst e (checkedAngles (fieldsOf tape)) ownWords) where
+      (f : words ≡ wordsAfterFirst e (checkedAngles (fieldsOf tape)) ownWords) where
     answer : toldTraverse x ≡ traversedBy e tape 130
     answer = known-told e tape ownWords (omega arith) c known x g
 

@@ -50,8 +50,17 @@ records =
 
 -- W=+0.5 N=-0.01 E=+0.02 P=178886, and AREA2 2000020.0000
 abbrev pub answer : ToldTraverse
-answer = record { number = 0; place = 0; legs = 4; w = pos 5; northClosure = negℤ (pos 1);
-    eastClosure = pos 2; precision = 178886; area = pos 20000200000; loop = true }
+answer = record {
+  number = 0;
+  place = 0;
+  legs = 4;
+  w = pos 5;
+  northClosure = negℤ (pos 1);
+  eastClosure = pos 2;
+  precision = 178886;
+  area = pos 20000200000;
+  loop = true;
+}
 
 pub printed-told : traversed (tapeOf records) 130 ≡ answer
 unfolding nearest sumTo exactSine exactQuarter bySeries series weight unity straight pi factorial

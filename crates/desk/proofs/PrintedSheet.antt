@@ -54,7 +54,7 @@ pub printed-sheet : printed (tapeOf records) ≡ sheet
 unfolding printed
 printed-sheet =
     ap (λ (t : ToldTraverse). printedOf t (sheetWords entry (tapeOf records))) printed-told ∙ ap
-        (printedOf answer) (printed-words (pos 0)) ∙ figures
+    (printedOf answer) (printed-words (pos 0)) ∙ figures
 
 pub printed-refusal : printed [] ≡ ascii "REFUSED 2\n"
 unfolding traversedBy firstFor firstOf readingOf walk digits digitCountIn decimal printedOf printed

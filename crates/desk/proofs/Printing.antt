@@ -24,8 +24,11 @@ use Rattle.desk.specs.Sheet.{paged, pagedBytes, Showed, printedOf, print
 refusal-most : (tape : List ℕ)
     → length (ascii "REFUSED " ++ decimal (answered entry tape .number) ++ ascii "\n") ≤ 10
 refusal-most tape = simp length-append
-    (omega (arith, decimal-most 0 (answered entry tape .number)
-    (omega (arith, number-most entry tape 130))))
+    (omega (
+      arith,
+      decimal-most 0 (answered entry tape .number)
+          (omega (arith, number-most entry tape 130)),
+    ))
 
 module _ (tape out : List ℕ) where
   abbrev t : ToldTraverse

@@ -58,8 +58,11 @@ module _ (e : ℕ → ℤ) (entries : Entries e) where
       let s = sineAlong e axis azimuth in
       nearest-most (negℤ (s *ℤ pos distance)) 10000000000 2010000 (omega arith)
       (rw (abs-neg (s *ℤ pos distance), abs-mul s (pos distance))
-      (omega (arith, product-most (natAbs s) distance 1000000000 20100000
-      (along-most e entries axis azimuth turned) near)))
+      (omega (
+        arith,
+        product-most (natAbs s) distance 1000000000 20100000
+            (along-most e entries axis azimuth turned) near,
+      )))
 
 -- so a move that a lent table gives is slight
 pub course-small : (table : List ℕ) (axis : Axis) (distance azimuth : ℕ) (m : Moves)
@@ -81,8 +84,10 @@ pub advanced : (table : List ℕ) (s r : Sums) (m : Moves) (long factor distance
     → toldMove east m ≡ courseStep (entryIn table) east long azimuth
     → Advanced (entryIn table) s factor distance azimuth r
 advanced table s r m long factor distance azimuth a e near turned n w =
-    rw (← e) (rw (move-given (entryIn table) north long azimuth m (omega arith) turned n,
-    move-given (entryIn table) east long azimuth m (omega arith) turned w) at a)
+    rw (← e) (rw (
+      move-given (entryIn table) north long azimuth m (omega arith) turned n,
+      move-given (entryIn table) east long azimuth m (omega arith) turned w,
+    ) at a)
 
 -- ---- a balanced traverse whose fields are in range
 pub leg-sound : (b : Frame) (azimuths distances : List ℕ) (k : ℕ)
@@ -103,8 +108,11 @@ unfolding run
 run-most b sound zero h = omega arith
 run-most b sound (suc k) h =
     let leg = sound .leg k (omega arith) in
-    omega (arith, run-most b sound k (omega arith),
-    grid-most (getD (b .distances) k 0) (b .factor) (leg .near) (leg .most))
+    omega (
+      arith,
+      run-most b sound k (omega arith),
+      grid-most (getD (b .distances) k 0) (b .factor) (leg .near) (leg .most),
+    )
 
 module _ (e : ℕ → ℤ) (entries : Entries e) (b : Balanced) (sound : Sound b) where
   -- ---- how far a station may stand from the start, and how much may be run
@@ -120,14 +128,23 @@ module _ (e : ℕ → ℤ) (entries : Entries e) (b : Balanced) (sound : Sound b
       let m = course e axis (longOf b k) (azimuthOf b k) in
       let near = grid-most (getD (b .distances) k 0) (b .factor) (leg .near) (leg .most) in
       let q : p +ℤ m -ℤ f ≡ p -ℤ f +ℤ m = ring (p ∷ m ∷ f ∷ []) (λ v. search exps) tt in
-      rw q (omega (arith, triangle (p -ℤ f) m, drift axis k (omega arith),
-      course-most e entries axis (longOf b k) (azimuthOf b k) (omega (arith, near)) (leg .turned)))
+      rw q (omega (
+        arith,
+        triangle (p -ℤ f) m,
+        drift axis k (omega arith),
+        course-most e entries axis (longOf b k) (azimuthOf b k) (omega (arith, near)) (leg .turned),
+      ))
 
   pub place-small : (axis : Axis) (k : ℕ) (z : ℤ) → z ≡ preliminary (line e axis b) k → k ≤ b .legs
       → natAbs z < 2 ^ 40
   place-small axis k z g h =
-      rw g (omega (arith, near-most (preliminary (line e axis b) k) (along axis (b .from))
-      (2010000 * k) (drift axis k h), sound .from axis, sound .few))
+      rw g (omega (
+        arith,
+        near-most (preliminary (line e axis b) k) (along axis (b .from))
+            (2010000 * k) (drift axis k h),
+        sound .from axis,
+        sound .few,
+      ))
 
   pub stands-small : (k : ℕ) (s : Sums) → k ≤ b .legs → Stands e b k s → RoomForLeg s
   stands-small k s h w =
@@ -148,15 +165,17 @@ module _ (e : ℕ → ℤ) (b : Balanced) where
       → Stands e b (k + 1) r
   unfolding run preliminary
   stands-next k s r h n =
-      rw (add-one k) (record
-          { north = rw (← h .north) (n .north); east = rw (← h .east) (n .east);
-          run = rw (← h .run) (n .run) })
+      rw (add-one k) (record {
+        north = rw (← h .north) (n .north);
+        east = rw (← h .east) (n .east);
+        run = rw (← h .run) (n .run);
+      })
 
   -- ---- what is kept of every station up to the one reached
   module _ (k : ℕ) (x y : ℤ) (r : ℕ) (l m : List ℤ) (p q : List ℕ) (room : 2 * k + 1 < length l)
       (room-run : k < length p) (f : m ≡ set (set l (2 * k) x) (2 * k + 1) y)
       (g : q ≡ set p k r) (is-north : x ≡ preliminary (line e north b) k)
-          (is-east : y ≡ preliminary (line e east b) k) (is-run : r ≡ run (longOf b) k) where
+      (is-east : y ≡ preliminary (line e east b) k) (is-run : r ≡ run (longOf b) k) where
     own-spot : (axis : Axis) → wordAt m (wordIndex axis k) ≡ preliminary (line e axis b) k
     own-spot north = rw f (own l k x y north room ∙ is-north)
     own-spot east = rw f (own l k x y east room ∙ is-east)

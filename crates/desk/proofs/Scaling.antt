@@ -33,9 +33,11 @@ quotient-range d low high =
     least =
         elim (decLe 9990000 (halfUp 209060000000000 d)) [
           | yes i ↦ i
-          | no i ↦ absurd (omega
-              (arith, div-lt-iff-lt-mul {k = 2 * d} {x = 2 * 209060000000000 + d} {y = 9990000}
-              (omega arith) .0 (omega arith)))
+          | no i ↦ absurd (omega (
+            arith,
+            div-lt-iff-lt-mul {k = 2 * d} {x = 2 * 209060000000000 + d} {y = 9990000}
+                (omega arith) .0 (omega arith),
+          ))
         ]
 
 sea-range : (z : ℤ) → (leZ (negℤ (pos 1000)) z && leZ z (pos 20000)) ≡ true

@@ -79,7 +79,7 @@ precision-value r p n e s t f hn he low high =
 module _ (r : Amount) (v closure : ℤ) (part all : ℕ) (t : toldAmount r ≡ shareStep closure part all)
     (f : v ≡ toldAmount r .value)
     (small : natAbs closure ≤ 26000) (h : part ≤ all) (low : 1 ≤ all)
-        (high : all ≤ 1300000000) where
+    (high : all ≤ 1300000000) where
   share-is : v ≡ share closure part all
   share-is = f ∙ value-given (toldAmount r) _ _ t
       (both _ _ (both _ _ (le-leb (natAbs closure) 26000 small)
@@ -107,8 +107,11 @@ module _ (b : Balanced) (sound : Sound b) where
   pub far-run : 1 ≤ run (longOf b) (b .legs)
   unfolding run
   far-run = let leg = sound .leg 0 (omega (arith, sound .some)) in
-      omega (arith, run-up (longOf b) 1 (b .legs) (sound .some),
-      grid-least _ _ (leg .far) (leg .least))
+      omega (
+        arith,
+        run-up (longOf b) 1 (b .legs) (sound .some),
+        grid-least _ _ (leg .far) (leg .least),
+      )
 
   pub run-small : run (longOf b) (b .legs) ≤ 1300000000
   run-small = omega (arith, run-most b sound (b .legs) (omega arith), sound .few)
@@ -181,12 +184,17 @@ module _ (e : ℕ → ℤ) (entries : Entries e) (b : Balanced) (sound : Sound b
       let f = along axis (b .from) in
       let t = along axis (b .to) in
       let q : p -ℤ pos t ≡ p -ℤ pos f +ℤ (pos f -ℤ pos t) =
-          ring (p ∷ pos f ∷ pos t ∷ []) (λ v. search exps) tt in
+      ring (p ∷ pos f ∷ pos t ∷ []) (λ v. search exps) tt in
       let apart : natAbs (pos f -ℤ pos t) ≤ 1000000000 =
-          abs-under (pos f -ℤ pos t) (search ints)
-          (omega (arith, sound .from axis), omega (arith, sound .to axis)) in
-      rw q (omega (arith, triangle (p -ℤ pos f) (pos f -ℤ pos t),
-      drift e entries b sound axis (b .legs) (omega arith), apart, sound .few))
+      abs-under (pos f -ℤ pos t) (search ints)
+      (omega (arith, sound .from axis), omega (arith, sound .to axis)) in
+      rw q (omega (
+        arith,
+        triangle (p -ℤ pos f) (pos f -ℤ pos t),
+        drift e entries b sound axis (b .legs) (omega arith),
+        apart,
+        sound .few,
+      ))
 
   pub end-small : (end : Sums) → Stands e b (b .legs) end → RoomForLeg end
   end-small end stands = stands-small e entries b sound (b .legs) end (omega arith) stands
@@ -194,8 +202,11 @@ module _ (e : ℕ → ℤ) (entries : Entries e) (b : Balanced) (sound : Sound b
   pub closed-at : (end : Sums) (c : Closure) → Stands e b (b .legs) end → Left (b .to) end c
       → Closed e b c
   closed-at end c stands left =
-      record { north = rw (left .north, stands .north); east = rw (left .east, stands .east);
-      distance = left .distance ∙ stands .run }
+      record {
+        north = rw (left .north, stands .north);
+        east = rw (left .east, stands .east);
+        distance = left .distance ∙ stands .run;
+      }
 
 -- ---- after it
 module _ (e : ℕ → ℤ) (entries : Entries e) (frame : Frame) (azimuths distances : List ℕ)
@@ -243,9 +254,11 @@ module _ (e : ℕ → ℤ) (entries : Entries e) (frame : Frame) (azimuths dista
   put-is zero l i = refl
   put-is (suc k) l i =
       let x = h .ran .run k (omega arith) in
-      rw (put-is k l (omega arith),
-      adjusted-is north k _ _ _ (h .ran .spot north k (omega arith)) (h .closed .north) x,
-      adjusted-is east k _ _ _ (h .ran .spot east k (omega arith)) (h .closed .east) x)
+      rw (
+        put-is k l (omega arith),
+        adjusted-is north k _ _ _ (h .ran .spot north k (omega arith)) (h .closed .north) x,
+        adjusted-is east k _ _ _ (h .ran .spot east k (omega arith)) (h .closed .east) x,
+      )
 
   pub put-all-is : (l m : List ℤ) → m ≡ putTo spots runs c (frame .legs + 1) l
       → m ≡ withStations e b (b .legs + 1) l

@@ -42,8 +42,11 @@ module _ (e : ℕ → ℤ) (tape : List ℕ) (room : ℕ) where
   -- so no refusal has the number 0
   pub refused-some : (n p : ℕ) → toldTraverse (Refused n p) ≡ traversedBy e tape room → n ≡ 0 → ⊥
   refused-some n p h z =
-      omega (arith, some-leg (ap (λ (t : ToldTraverse). t .number) (sym h) ∙ z),
-      ap (λ (t : ToldTraverse). t .legs) h)
+      omega (
+        arith,
+        some-leg (ap (λ (t : ToldTraverse). t .number) (sym h) ∙ z),
+        ap (λ (t : ToldTraverse). t .legs) h,
+      )
 
   one-answer : (x : Answer) → toldTraverse x ≡ traversedBy e tape room
       → x ≡ telling (traversedBy e tape room)

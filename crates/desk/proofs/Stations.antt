@@ -58,17 +58,27 @@ module _ (e : ℕ → ℤ) (entries : Entries e) (b : Balanced) (sound : Sound b
         let f = pos (along axis (b .from)) in
         let q : p -ℤ s -ℤ f ≡ p -ℤ f +ℤ negℤ s = ring (p ∷ s ∷ f ∷ []) (λ v. search exps) tt in
         let most = share-most (closure l) (runAll l) (far-run b sound) (run (longOf b) k)
-            (run-up (longOf b) k (b .legs) h) in
-        rw q (omega (arith, triangle (p -ℤ f) (negℤ s), abs-neg s, drift e entries b sound axis k h,
-        sound .few, most))
+        (run-up (longOf b) k (b .legs) h) in
+        rw q (omega (
+          arith,
+          triangle (p -ℤ f) (negℤ s),
+          abs-neg s,
+          drift e entries b sound axis k h,
+          sound .few,
+          most,
+        ))
 
     offset-small : natAbs (offset e b axis k) ≤ 130000000
     offset-small = rw (first-fixed (line e axis b) (far-run b sound)) place-drift
 
     pub place-small : (z : ℤ) → z ≡ adjusted (line e axis b) k → natAbs z < 2 ^ 40
     place-small z g =
-        rw g (omega (arith, near-most (adjusted (line e axis b) k)
-        (along axis (b .from)) 130000000 place-drift, sound .from axis))
+        rw g (omega (
+          arith,
+          near-most (adjusted (line e axis b) k)
+              (along axis (b .from)) 130000000 place-drift,
+          sound .from axis,
+        ))
 
   module _ (near : (axis : Axis) → natAbs (closure (line e axis b)) ≤ 26000) where
     offsets-small : (k : ℕ) → k ≤ b .legs → goodOffsets (offsetsTo e b k) ≡ true
@@ -93,8 +103,13 @@ module _ (e : ℕ → ℤ) (entries : Entries e) (b : Balanced) (sound : Sound b
       unfolding takenFrom offsetsTo
       taken-is zero h = refl
       taken-is (suc k) h =
-          rw (taken-is k (omega arith), word north k (omega arith), word east k (omega arith),
-          word north 0 (omega arith), word east 0 (omega arith))
+          rw (
+            taken-is k (omega arith),
+            word north k (omega arith),
+            word east k (omega arith),
+            word north 0 (omega arith),
+            word east 0 (omega arith),
+          )
 
       placed-words : AreaRanged (b .legs) words
       placed-words =
@@ -113,23 +128,30 @@ module _ (e : ℕ → ℤ) (entries : Entries e) (b : Balanced) (sound : Sound b
     unfolding offsetsTo
     offsets-length zero = refl
     offsets-length (suc k) =
-        omega (arith, length-append (offsetsTo e b k) (offset e b north k ∷ offset e b east k ∷ []),
-        offsets-length k)
+        omega (
+          arith,
+          length-append (offsetsTo e b k) (offset e b north k ∷ offset e b east k ∷ []),
+          offsets-length k,
+        )
 
     pub area-most : natAbs (areaOf e b) ≤ 64 * 33800000000000000
     unfolding areaOf
     area-most =
         let l = offsetsTo e b (b .legs) in
         by-test (λ (z : ℤ). natAbs z ≤ 64 * 33800000000000000) (isLoop b)
-        (λ t. omega (arith, doubled-most l (offsets-small (b .legs) (omega arith)),
-        offsets-length (b .legs), sound .few)) (λ t. omega arith)
+        (λ t. omega (
+          arith,
+          doubled-most l (offsets-small (b .legs) (omega arith)),
+          offsets-length (b .legs),
+          sound .few,
+        )) (λ t. omega arith)
 
 -- ---- the second step, once its test is passed
 module _ (e : ℕ → ℤ) (entries : Entries e) (frame : Frame) (azimuths distances : List ℕ)
     (spots : List ℤ) (runs : List ℕ) (c : Closure)
     (h : Ended e (withLegs frame azimuths distances) spots runs c)
     (x : Bool) (t : x ≡ closes (c .north .v) (c .east .v) (c .distance)) (y : x ≡ true)
-        (l : List ℤ) where
+    (l : List ℤ) where
   abbrev b : Balanced
   b = withLegs frame azimuths distances
 
@@ -150,10 +172,27 @@ module _ (e : ℕ → ℤ) (entries : Entries e) (frame : Frame) (azimuths dista
   unfolding adjustedTraverse areaOf
   passed-told words r g f =
       let room : 130 ≤ length l =
-          omega (arith, f .room, ap length g,
-          put-length (frame .legs) spots runs c (frame .legs + 1) l) in
+      omega (
+        arith,
+        f .room,
+        ap length g,
+        put-length (frame .legs) spots runs c (frame .legs + 1) l,
+      ) in
       let taken = taken-is e entries b (h .sound) all-near l words room
-          (put-all-is e entries frame azimuths distances spots runs c h l words g) (b .legs)
-          (omega arith) in
-      rw (← passed, y, f .legs, f .w, f .north, f .east, f .precise, f .looped, f .area, taken,
-      h .closed .north, h .closed .east, h .closed .distance)
+      (put-all-is e entries frame azimuths distances spots runs c h l words g) (b .legs)
+      (omega arith) in
+      rw (
+        ← passed,
+        y,
+        f .legs,
+        f .w,
+        f .north,
+        f .east,
+        f .precise,
+        f .looped,
+        f .area,
+        taken,
+        h .closed .north,
+        h .closed .east,
+        h .closed .distance,
+      )

@@ -105,7 +105,7 @@ fn balanced_leg(azimuth: u32, w: Whole, j: usize, angles: usize) -> u32
     steps::azimuth::balanced(azimuth, part).value() as u32
 }
 
-// The balanced azimuths of all legs, in the place of the carried ones. `ahead` angles stand before
+// The balanced azimuths of all legs, instead of the carried ones. `ahead` angles stand before
 // leg 1, and `angles` share W.
 pub fn balance(w: Whole, legs: usize, ahead: usize, angles: usize, azimuths: &mut [u32])
     requires { ⌜ natAbs (w .v) ≤ halfCircle ⌝ }

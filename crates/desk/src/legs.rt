@@ -86,8 +86,7 @@ fn keep(spots: &mut [i64], runs: &mut [u64], k: usize, s: Sums)
 }
 
 // The run along all legs: what is summed at every station is kept in the lent lists, and what is
-// summed at the last one comes back. Lists are lent, since a list of structures would be copied
-// whole wherever it is handed on.
+// summed at the last one comes back.
 pub fn run_all(
     table: &[u32; ENTRIES],
     b: Frame,

@@ -33,8 +33,7 @@ pub const SHEET_BYTES: usize = 4_096;
 // A traverse whose angles are balanced, but for its legs: how many angles share W, which the second
 // step takes from here, the misclosure W, the combined factor, the two fixed points, and the place
 // of the close. The balanced azimuth and the measured distance of each leg stand in two lists
-// beside it, since a structure is copied wherever it is handed on. No latitude, departure or
-// coordinate of a station stands in it.
+// beside it. No latitude, departure or coordinate of a station stands in it.
 pub struct Frame {
     pub legs: usize,
     pub angles: usize,

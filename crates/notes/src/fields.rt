@@ -9,7 +9,7 @@ use crate::units;
 use minutes::quadrant::TENTHS_IN_MINUTE;
 ghost use Prim.Native.Nat.{_<_};
 
-// The amount read last, in units of its last decimal, the place after it, and the first fault.
+// The amount read last, in units of its last decimal, the offset after it, and the first fault.
 pub struct Amount {
     pub value: u32,
     pub at: usize,

@@ -87,7 +87,7 @@ mod put;
 mod scan;
 mod units;
 
-// The line whose first word starts at a place, written as a record.
+// The line whose first word starts at an offset, written as a record.
 fn put_line(text: &[u8], from: usize, out: &mut [u8], place: usize) -> Entry {
     let line = lines::line_at(text, from);
     let fault = line.fault;
@@ -106,7 +106,7 @@ fn put_line(text: &[u8], from: usize, out: &mut [u8], place: usize) -> Entry {
     }
 }
 
-// The line that starts at a place; an empty one writes nothing.
+// The line that starts at an offset; an empty one writes nothing.
 fn take_line(text: &[u8], at: usize, out: &mut [u8], place: usize) -> Entry {
     let from = scan::skip_blanks(text, at);
     if scan::is_over(text, from) {
@@ -138,7 +138,7 @@ fn put_lines(text: &[u8], out: &mut [u8]) -> Noted {
     Noted::Tape(place)
 }
 
-// How many bytes of tape the line that starts at a place becomes.
+// How many bytes of tape the line that starts at an offset becomes.
 fn line_bytes(text: &[u8], at: usize) -> usize {
     let from = scan::skip_blanks(text, at);
     if scan::is_over(text, from) {

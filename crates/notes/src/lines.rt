@@ -118,7 +118,8 @@ fn close_line(text: &[u8], before: Amount) -> Line {
     ended(text, record, mark)
 }
 
-// The line whose first word starts at a place. A line of no word has a record that nobody looks at.
+// The line whose first word starts at an offset. A line of no word has a record that no caller
+// looks at.
 pub fn line_at(text: &[u8], from: usize) -> Line {
     let before = Amount {
         value: 0,

@@ -13,8 +13,8 @@ const WIDEST: u32 = 4_294_967_295;
 // The largest u32, as wide as the values that are compared with it.
 const WIDE_WIDEST: u64 = WIDEST as u64;
 
-// The digits from a place on, after those of a value before: the value of all, and the place after
-// them.
+// The digits from an offset on, after those of a value before: the value of all, and the offset
+// after them.
 pub struct Digits {
     pub value: u64,
     pub at: usize,
@@ -82,7 +82,7 @@ pub fn narrow(value: u64) -> u32 {
     WIDEST
 }
 
-// The number that stands from a place up to another, in units of its last decimal.
+// The number that stands from an offset up to another, in units of its last decimal.
 pub fn number_in(text: &[u8], from: usize, to: usize, decimals: usize) -> Number {
     let whole = digits_from(text, from, to, 0);
     let point = whole.at;

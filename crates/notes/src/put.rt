@@ -1,5 +1,5 @@
-// Text put into lent bytes, from a place on, by the proved writers of `text`: each answers the
-// place after it. What has no room is left out, and never put in part.
+// Text put into lent bytes, from an offset on, by the proved writers of `text`: each answers the
+// offset after it. What has no room is left out, and never put in part.
 ghost use Prim.Native.Nat.{_<_};
 
 pub fn bytes(out: &mut [u8], place: usize, what: &[u8]) -> usize {

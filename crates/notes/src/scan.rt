@@ -1,5 +1,5 @@
-// Looking along a text. Any place may be asked for: past its end a text has the byte 0, and nothing
-// more to say.
+// Looking along a text. Any offset may be asked for: past its end a text has the byte 0, and
+// nothing more to say.
 ghost use mathlib.Core.Path.{_≡_};
 ghost use Prim.Native.Nat.{_<_, _≤_};
 ghost use lib.ListN.{length};
@@ -43,8 +43,8 @@ fn is_blank(byte: u8) -> bool {
     byte == b'\t'
 }
 
-// Whether a line says nothing more from a place on: there it ends, with LF, with CR LF or with the
-// text, or a comment starts.
+// Whether a line says nothing more from an offset on: there it ends, with LF, with CR LF or with
+// the text, or a comment starts.
 pub fn is_over(text: &[u8], at: usize) -> bool {
     if at < text.len() {
         let byte = text[at];
@@ -77,7 +77,7 @@ pub fn skip_blanks(text: &[u8], from: usize) -> usize {
     at
 }
 
-// The place after the word that starts at a place.
+// The offset after the word that starts at an offset.
 pub fn word_end(text: &[u8], from: usize) -> usize {
     let mut at = from;
     while at < text.len() && in_word(text, at) {
@@ -101,7 +101,7 @@ pub fn next_line(text: &[u8], from: usize) -> usize
     at
 }
 
-// Whether the bytes from a place up to another are those of a name.
+// Whether the bytes from an offset up to another are those of a name.
 pub fn is_name(text: &[u8], from: usize, to: usize, name: &[u8]) -> bool {
     if to < from {
         return false;

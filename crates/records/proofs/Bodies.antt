@@ -56,5 +56,5 @@ project-feet given latitude elevation e t =
         omega (
           arith,
           leb-true n 999 (and-eq-true-iff (leb n 999) true .0
-          (and-eq-true-iff (leb n 999 && true) true .0 h .0) .0),
+              (and-eq-true-iff (leb n 999 && true) true .0 h .0) .0),
         )

@@ -68,7 +68,7 @@ minute r s e f v x x₀ x₁ rs he hf hv hc =
       times r d,
     ))
     hc (mul-le-mul-left unity hv) (mul-le-mul-left s he) (mul-le-mul-left r hf)
-        (ap (λ (n : ℕ). n * unity) rs)
+    (ap (λ (n : ℕ). n * unity) rs)
   where
     -- the parts' sizes: 6600 units, half of 600, and half of s and of r
     sum : (y a b c d : ℕ) → 600 * y ≤ a + unity * b + (s * c + r * d) → a ≤ 6600 * unity
@@ -157,9 +157,11 @@ high-near m r y h k l n e =
 -- at a whole minute the sine is the entry
 on-minute : (m : ℕ) → m ≤ 5400 → Within 12 (entry m) (exactQuarter (600 * m))
 unfolding Half
-on-minute m h = omega
-    (arith, entry-half m h,
-    abs-sub (entry m *ℤ pos unity) (pos 1000000000 *ℤ exactQuarter (600 * m)))
+on-minute m h = omega (
+  arith,
+  entry-half m h,
+  abs-sub (entry m *ℤ pos unity) (pos 1000000000 *ℤ exactQuarter (600 * m)),
+)
 
 -- ---- the first quadrant
 quarter-near : (a : ℕ) → a ≤ 3240000 → Within 12 (quarterBy entry a) (exactQuarter a)
@@ -187,8 +189,10 @@ sine-twelve a h =
     elim (decLe a 6480000) [
       | yes i ↦ rw (around-up (quarterBy entry) a i, around-up exactQuarter a i) near
       | no i ↦
-          rw (around-down (quarterBy entry) a (omega arith),
-          around-down exactQuarter a (omega arith))
+          rw (
+            around-down (quarterBy entry) a (omega arith),
+            around-down exactQuarter a (omega arith),
+          )
           (turned-near (quarterBy entry (folded a)) (exactQuarter (folded a)) near)
     ]
   where

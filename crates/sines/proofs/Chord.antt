@@ -60,11 +60,11 @@ below-step : (A x r s p q u l b : ℕ) → x + (r + s) ≤ A → u ≤ p + (r + 
     (A * b + l)
 below-step A x r s p q u l b f ul i =
     let one : (x + r) * (s * p + r * u) ≤ (x + r) * ((r + s) * q + (r + s) * r * s * b) =
-        mul-le-mul-left (x + r) i in
+    mul-le-mul-left (x + r) i in
     let two : r * s * u ≤ r * s * (p + (r + s) * l) = mul-le-mul-left (r * s) ul in
     let g : x + r ≤ A = omega arith in
     let three : (x + r) * ((r + s) * r * s * b) ≤ A * ((r + s) * r * s * b) =
-        mul-le-mul-right ((r + s) * r * s * b) g in
+    mul-le-mul-right ((r + s) * r * s * b) g in
     simp products (omega
     (arith, simp products at one, simp products at two, simp products at three))
 

@@ -72,7 +72,7 @@ module _ (a b r : ℕ) (low : b ≤ a) (h : r ≤ 600) where
   falling =
       rw (e, nearest-neg (pos ((a - b) * r)) 600 (omega arith))
       (same {x = pos (a - halfUp ((a - b) * r) 600)} {y = pos a -ℤ pos (halfUp ((a - b) * r) 600)}
-          (search ints) (omega (arith, falling-most)))
+      (search ints) (omega (arith, falling-most)))
     where
       e : (pos b -ℤ pos a) *ℤ pos r ≡ negℤ (pos ((a - b) * r))
       e = ap (λ (z : ℤ). z *ℤ pos r)
@@ -84,7 +84,10 @@ pub between-most : (a b r k : ℕ) → r ≤ 600 → a ≤ k → b ≤ k
     → (n : ℕ) × (between (pos a) (pos b) r ≡ pos n) × (n ≤ k)
 between-most a b r k h i j =
     elim (decLe a b) [
-      | yes low ↦ (a + halfUp ((b - a) * r) 600, sym (rising a b r low),
-          omega (arith, rising-most a b r low h))
+      | yes low ↦ (
+        a + halfUp ((b - a) * r) 600,
+        sym (rising a b r low),
+        omega (arith, rising-most a b r low h),
+      )
       | no high ↦ (a - halfUp ((a - b) * r) 600, sym (falling a b r (omega arith) h), omega arith)
     ]

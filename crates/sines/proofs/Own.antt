@@ -92,8 +92,12 @@ module _ (e : ℕ → ℤ) (entries : Entries e) where
   quarter-size a h =
       let x = entries .each (a / 600) (omega arith) in
       elim (ℕ-discrete (a % 600) 0) [
-        | yes z ↦ (x .0, ap (between (e (a / 600)) (e (a / 600 + 1))) z ∙ at-minute (e (a / 600))
-            (e (a / 600 + 1)) ∙ x .1, x .2)
+        | yes z ↦ (
+          x .0,
+          ap (between (e (a / 600)) (e (a / 600 + 1))) z ∙ at-minute (e (a / 600))
+              (e (a / 600 + 1)) ∙ x .1,
+          x .2,
+        )
         | no z ↦
             let y = entries .each (a / 600 + 1) (omega arith) in
             let l = between-most (x .0) (y .0) (a % 600) nineDecimals (omega arith) (x .2) (y .2) in

@@ -66,15 +66,21 @@ module _ (a : ℕ) (h : a < circle) where
   folded-ahead =
       elim (decLe a 3240000) [
         | yes i ↦ rw (← first a i)
-            (elim (decLe a 0) [ yes z ↦ in-first (omega arith) (omega arith) | no z ↦
-            sym (second (ahead a) (omega arith) (omega arith)) ∙ (omega arith) ])
+            (elim (decLe a 0) [
+              | yes z ↦ in-first (omega arith) (omega arith)
+              | no z ↦
+                  sym (second (ahead a) (omega arith) (omega arith)) ∙ (omega arith)
+            ])
         | no i ↦ elim (decLe a 6480000) [
           | yes j ↦ rw (← second a (omega arith) j)
               (sym (third (ahead a) (omega arith) (omega arith)) ∙ (omega arith))
           | no j ↦ elim (decLe a 9720000) [
             | yes k ↦ rw (← third a (omega arith) k)
-                (elim (decLe 9720000 a) [ yes z ↦ in-first (omega arith) (omega arith) | no z ↦
-                sym (fourth (ahead a) (omega arith)) ∙ (omega arith) ])
+                (elim (decLe 9720000 a) [
+                  | yes z ↦ in-first (omega arith) (omega arith)
+                  | no z ↦
+                      sym (fourth (ahead a) (omega arith)) ∙ (omega arith)
+                ])
             | no k ↦ rw (← fourth a (omega arith)) (in-first (omega arith) (omega arith))
           ]
         ]

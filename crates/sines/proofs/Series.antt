@@ -78,7 +78,7 @@ terms-below A (k ∷ ks) x r s f =
         → s * (w * p + P) + r * (w * u + U) ≤ (r + s) * (w * q + Q) + (r + s) * r * s * (w * b + B)
     sum w p q u b P Q U B i j =
         let one : w * (s * p + r * u) ≤ w * ((r + s) * q + (r + s) * r * s * b) =
-            mul-le-mul-left w i in
+        mul-le-mul-left w i in
         simp products (omega (arith, simp products at one, simp products at j))
 
 -- ---- one minute: r s is at most 300 squared
@@ -124,9 +124,9 @@ chorded : (ks : List ℕ) (x r s : ℕ) → r + s ≡ 600 → x + 600 ≤ 162000
 chorded ks x r s e h flat =
     let B = curves ks 1620000 in
     let up : 600 * terms ks (x + r) ≤ s * terms ks x + r * terms ks (x + 600) =
-        rw e at (terms-above ks x r s) in
+    rw e at (terms-above ks x r s) in
     let down : s * terms ks x + r * terms ks (x + 600) ≤ 600 * terms ks (x + r) + 600 * r * s * B =
-        rw e at (terms-below 1620000 ks x r s (rw e h)) in
+    rw e at (terms-below 1620000 ks x r s (rw e h)) in
     let bend : r * s * B ≤ 90000 * B = mul-le-mul-right B (in-minute r s e) in
     record {
       high = mul-le-mul-left 1000000000 up;

@@ -22,17 +22,23 @@ module _ (e : ℕ → ℤ) (a : ℕ) where
   no-sides h = rw (le-ltb a 12960000 h)
 
   pub no-circle : OutOfRange ≡ turnedBy e a → circle ≤ a
-  no-circle g = elim (decLt a circle)
-      [ yes h ↦ absurd (let z : _≡_ {A = ℕ} 0 1 = cc (rw (lt-ltb a circle h) at g) in
-      omega arith) | no h ↦ omega arith ]
+  no-circle g = elim (decLt a circle) [
+    | yes h ↦ absurd (let z : _≡_ {A = ℕ} 0 1 = cc (rw (lt-ltb a circle h) at g) in
+        omega arith)
+    | no h ↦ omega arith
+  ]
 
   pub sides-are : (x m n : ℕ) (back : Bool) → x ≡ folded a → pos m ≡ quarterBy e x
       → pos n ≡ quarterBy e (3240000 - x) → back ≡ ltb 6480000 (ahead a) → a < 12960000
       → Are (record { sine = m; past = ltb 6480000 a; cosine = n; back = back }) ≡ turnedBy e a
   unfolding sidesBy
   sides-are x m n back f g k b h =
-      rw (lt-ltb a 12960000 h, ← size-is e a x m f g,
-      ← size-is e (ahead a) (3240000 - x) n (rw f (sym (folded-ahead a h))) k, b)
+      rw (
+        lt-ltb a 12960000 h,
+        ← size-is e a x m f g,
+        ← size-is e (ahead a) (3240000 - x) n (rw f (sym (folded-ahead a h))) k,
+        b,
+      )
 
 -- ---- and what is told of each
 module _ (a : ℕ) where
@@ -62,9 +68,11 @@ signed-again e entries a h =
 -- the angle
 module _ (e : ℕ → ℤ) (entries : Entries e) (a : ℕ) (s : Sides) (g : Are s ≡ turnedBy e a) where
   pub in-circle : a < circle
-  in-circle = elim (decLt a circle)
-      [ yes h ↦ h | no h ↦
-      absurd (let z : _≡_ {A = ℕ} 0 1 = cc (g ∙ sym (no-sides e a (omega arith))) in omega arith) ]
+  in-circle = elim (decLt a circle) [
+    | yes h ↦ h
+    | no h ↦
+        absurd (let z : _≡_ {A = ℕ} 0 1 = cc (g ∙ sym (no-sides e a (omega arith))) in omega arith)
+  ]
 
   these : s ≡ sidesBy e a
   these = cc (rw (lt-ltb a circle in-circle) at g)

@@ -80,7 +80,7 @@ module _ (l : List ℤ) (i n : ℕ) (b : Bool) (f : b ≡ bothSmall l i) (g : 2 
       let first = leb (natAbs (northing l i)) 130000000 in
       let second = leb (natAbs (easting l i)) 130000000 in
       sym e ∙ small-from l (2 * i) (omega arith) ∙ ap (λ (s : Bool). first && s)
-          (small-from l (2 * i + 1) (omega arith))
+      (small-from l (2 * i + 1) (omega arith))
       ∙ sym (and-assoc first second (goodOffsets (drop (2 * i + 1 + 1) l))) ∙ rw (f, k)
 
   pub small-next : b ≡ true → goodOffsets (drop (2 * (i + 1)) l) ≡ goodOffsets l
@@ -100,9 +100,13 @@ pub cross-size : (n : ℕ) (p q a b c d : ℤ) → n ≤ natAbs p + natAbs q →
     → natAbs a ≤ 130000000 → natAbs b ≤ 130000000 → natAbs c ≤ 130000000 → natAbs d ≤ 130000000
     → n ≤ 33800000000000000
 cross-size n p q a b c d h f g s t u v =
-    omega (arith, ap natAbs f ∙ abs-mul a b, ap natAbs g ∙ abs-mul c d,
-    product-most (natAbs a) (natAbs b) 130000000 130000000 s t,
-    product-most (natAbs c) (natAbs d) 130000000 130000000 u v)
+    omega (
+      arith,
+      ap natAbs f ∙ abs-mul a b,
+      ap natAbs g ∙ abs-mul c d,
+      product-most (natAbs a) (natAbs b) 130000000 130000000 s t,
+      product-most (natAbs c) (natAbs d) 130000000 130000000 u v,
+    )
 
 module _ (l : List ℤ) (e : goodOffsets l ≡ true) where
   cross-most : (i j : ℕ) → i < stations l → j < stations l

@@ -26,10 +26,10 @@ use Rattle.steps.specs.Area.{cross, nextStation, doubledTo, goodOffsets,
 -- a figure: what a step tells by the definitions, and the number that the rules print
 pub record Figure : Type 0 where
   pub rule : ToldStep
-  pub paper : ℤ
+  pub printed : ℤ
 
 abbrev fig : ToldStep → ℤ → Figure
-fig rule paper = record { rule = rule; paper = paper }
+fig rule printed = record { rule = rule; printed = printed }
 
 -- degrees, minutes, seconds and a tenth
 abbrev dms : ℕ → ℕ → ℕ → ℕ → ℕ
@@ -86,8 +86,8 @@ products =
     ∷ []
 
 abbrev Hold : List Figure → Type 0
-Hold figures = map (λ (f : Figure). f .rule) figures ≡ map
-    (λ (f : Figure). given (f .paper)) figures
+Hold figures =
+    map (λ (f : Figure). f .rule) figures ≡ map (λ (f : Figure). given (f .printed)) figures
 
 pub marked-hold : Hold marked
 unfolding marked sineBy quarterBy between entry nearest exactSine around turned folded exactQuarter

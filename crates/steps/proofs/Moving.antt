@@ -70,9 +70,10 @@ module _ (e : ℕ → ℤ) (axis : Axis) (distance azimuth : ℕ) where
   pub no-azimuth : (r : Turned) → r ≡ turnedBy e azimuth → r ≡ turn.OutOfRange
       → toldMove axis OutOfRange ≡ courseStep e axis distance azimuth
   unfolding toldMove
-  no-azimuth r g f = rw
-      (le-ltb azimuth circle (no-circle e azimuth (sym f ∙ g)),
-      not-second (leb distance 20100000) false refl)
+  no-azimuth r g f = rw (
+    le-ltb azimuth circle (no-circle e azimuth (sym f ∙ g)),
+    not-second (leb distance 20100000) false refl,
+  )
 
 -- the sine that counts along an axis, by both sides of the azimuth
 abbrev sideAlong : Axis → Sides → ℤ
@@ -96,9 +97,12 @@ module _ (t : List ℕ) (azimuth : ℕ) (r : Turned) (s : Sides) (g : r ≡ turn
       → v ≡ move distance (sideAlong axis s)
       → given v ≡ courseStep (entryIn t) axis distance azimuth
   along-told axis distance v h m =
-      rw (le-leb distance 20100000 h,
-      lt-ltb azimuth circle (in-circle (entryIn t) (lent-entries t) azimuth s (sym f ∙ g)), m,
-      side-is axis)
+      rw (
+        le-leb distance 20100000 h,
+        lt-ltb azimuth circle (in-circle (entryIn t) (lent-entries t) azimuth s (sym f ∙ g)),
+        m,
+        side-is axis,
+      )
 
 -- ---- for a caller whose leg is in range: the move along an axis, as `north` or `east` gives it
 pub move-given : (e : ℕ → ℤ) (axis : Axis) (distance azimuth : ℕ) (r : Moves) → distance ≤ 20100000

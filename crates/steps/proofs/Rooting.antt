@@ -41,10 +41,11 @@ root-is (suc k) x h = next (root k (x / 4)) x (root-is k (x / 4) (omega (arith, 
 -- what the rules ask of P, with q for the sum of the closures' squares
 pub largest-root : (q s p : ℕ) → 0 < q → WholeRoot (s * s / (100 * q)) p
     → (p * p * (100 * q) ≤ s * s) × ((k : ℕ) → k * k * (100 * q) ≤ s * s → k ≤ p)
-largest-root q s p h r =
-    (le-div-iff-mul-le {k = 100 * q} (omega arith) .0 (r .0),
-        λ k i. below-root (s * s / (100 * q)) p k
-        (le-div-iff-mul-le {k = 100 * q} (omega arith) .1 i) (r .1))
+largest-root q s p h r = (
+  le-div-iff-mul-le {k = 100 * q} (omega arith) .0 (r .0),
+  λ k i. below-root (s * s / (100 * q)) p k
+      (le-div-iff-mul-le {k = 100 * q} (omega arith) .1 i) (r .1),
+)
 
 small : (q s : ℕ) → s < 2 ^ 32 → s * s / (100 * q) < 4 ^ 32
 small q s h = lt-of-le-of-lt (div-le-self (s * s) (100 * q))
@@ -60,10 +61,10 @@ precision-is north east s h =
           (record { none = λ z. refl; fits = λ n. absurd (n e); largest = λ n. absurd (n e) })
       | no n ↦
           let l = largest-root (squares north east) s (root 32 (s * s / (100 * squares north east)))
-              (omega arith) (root-is 32 (s * s / (100 * squares north east))
-              (small (squares north east) s h)) in
+          (omega arith) (root-is 32 (s * s / (100 * squares north east))
+          (small (squares north east) s h)) in
           rw (ne-eqb (squares north east) 0 n)
-              (record { none = λ z. absurd (n z); fits = λ z. l .0; largest = λ z. l .1 })
+          (record { none = λ z. absurd (n z); fits = λ z. l .0; largest = λ z. l .1 })
     ]
 
 pub precision-unique : (north east : ℤ) (s p r : ℕ) → Precision north east s p
@@ -82,8 +83,11 @@ precision-most north east s h =
     elim (ℕ-discrete (squares north east) 0) [
       | yes e ↦ omega (arith, r .none e)
       | no n ↦ below-root (s * s) s p
-          (omega (arith, r .fits n,
-          product-most (p * p) 1 (p * p) (100 * squares north east) (omega arith) (omega arith)))
+          (omega (
+            arith,
+            r .fits n,
+            product-most (p * p) 1 (p * p) (100 * squares north east) (omega arith) (omega arith),
+          ))
           (omega arith)
     ]
 
@@ -104,9 +108,9 @@ module _ (north east : ℤ) (n e both s : ℕ) (f : n ≡ natAbs north) (g : e �
   both-is = b ∙ rw (f, g)
 
   pub hundred-fits : n ≤ 26000 → e ≤ 26000 → Fits w64 (100 * both)
-  hundred-fits h k = record
-      { fits = omega (arith, b, product-most n n 26000 26000 h h, product-most e e 26000 26000 k k)
-      }
+  hundred-fits h k = record {
+    fits = omega (arith, b, product-most n n 26000 26000 h h, product-most e e 26000 26000 k k);
+  }
 
   pub no-closure : both ≡ 0 → 0 ≡ precision north east s
   unfolding precision

@@ -48,7 +48,7 @@ module _ (total : ℤ) (whole : ℕ) (some : 0 < whole) where
       → sumTo (λ (k : ℕ). share total (part (suc k)) whole -ℤ share total (part k) whole) n ≡ total
   shares-add-up part n first last =
       telescope (λ (k : ℕ). share total (part k) whole) n ∙ rw (first, last, share-none, share-all)
-          (+ℤ-idr total)
+      (+ℤ-idr total)
 
 -- ---- as the code computes it: m is the share of the total's size n, and b says whether the total
 -- is below zero

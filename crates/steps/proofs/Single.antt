@@ -94,8 +94,8 @@ moves-single e distance azimuth x y p q = one-moves x y (λ axis. p axis ∙ sym
         absurd (omega (arith, ap (λ (z : ToldStep). z .number) (p Axis·north)))
     one-moves (Are m n) (Are k l) p =
         ap (λ (v : ℤ). Are (record { v = v }) n) (ap (λ (z : ToldStep). z .value) (p Axis·north))
-            ∙ ap (λ (v : ℤ). Are k (record { v = v }))
-            (ap (λ (z : ToldStep). z .value) (p Axis·east))
+        ∙ ap (λ (v : ℤ). Are k (record { v = v }))
+        (ap (λ (z : ToldStep). z .value) (p Axis·east))
 
 -- `Moves::north` and `Moves::east`, each along its axis
 pub move-single : (axis : Axis) (m : Moves) (x y : Whole) → x .v ≡ toldMove axis m .value

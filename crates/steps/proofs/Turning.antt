@@ -44,14 +44,18 @@ turn-unique z a m =
 pub turn-less : (a b : ℕ) → b ≤ circle → (a + circle - b) % circle ≡ turn (pos a -ℤ pos b)
 turn-less a b h =
     turn-unique (pos a -ℤ pos b) ((a + circle - b) % circle)
-    (record { low = mod-lt (a + circle - b) (omega arith);
-        same = (pos ((a + circle - b) / circle) -ℤ pos 1, same (search ints) (omega arith)) })
+    (record {
+      low = mod-lt (a + circle - b) (omega arith);
+      same = (pos ((a + circle - b) / circle) -ℤ pos 1, same (search ints) (omega arith));
+    })
 
 turn-more : (a b : ℕ) → (a + b) % circle ≡ turn (pos a -ℤ negℤ (pos b))
 turn-more a b =
     turn-unique (pos a -ℤ negℤ (pos b)) ((a + b) % circle)
-    (record { low = mod-lt (a + b) (omega arith);
-        same = (pos ((a + b) / circle), same (search ints) (omega arith)) })
+    (record {
+      low = mod-lt (a + b) (omega arith);
+      same = (pos ((a + b) / circle), same (search ints) (omega arith));
+    })
 
 -- ---- the misclosure
 near-half : (d : ℕ) → d ≤ halfCircle → nearHalf d ≡ pos d
@@ -75,15 +79,21 @@ misclosure-is carried given =
         → Misclosure c g (pos d)
     near c g d t h e =
         let v = vars (t ∷ []) in
-        record { same = (negℤ t, same (search ints) (omega (arith, eq e (search ints))));
-            above = below (search ints) (omega arith); most = under (search ints) (omega arith) }
+        record {
+          same = (negℤ t, same (search ints) (omega (arith, eq e (search ints))));
+          above = below (search ints) (omega arith);
+          most = under (search ints) (omega arith);
+        }
 
     past : (c g d : ℕ) (t : ℤ) → halfCircle < d → d < circle
         → pos c -ℤ pos g ≡ pos d +ℤ t *ℤ pos circle → Misclosure c g (negℤ (pos (circle - d)))
     past c g d t h k e =
         let v = vars (t ∷ []) in
-        record { same = (negℤ t -ℤ pos 1, same (search ints) (omega (arith, eq e (search ints))));
-            above = below (search ints) (omega arith); most = under (search ints) (omega arith) }
+        record {
+          same = (negℤ t -ℤ pos 1, same (search ints) (omega (arith, eq e (search ints))));
+          above = below (search ints) (omega arith);
+          most = under (search ints) (omega arith);
+        }
 
 pub misclosure-unique : (carried given : ℕ) (w : ℤ) → Misclosure carried given w
     → w ≡ misclosure carried given
@@ -97,9 +107,15 @@ misclosure-unique carried given w m =
         → x ≤ᶻ pos halfCircle → w ≡ x
     alone w x z s t e f a b c d =
         let v = vars (w ∷ x ∷ z ∷ s ∷ t ∷ []) in
-        same (search ints) (omega
-        (arith, eq e (search ints), eq f (search ints), lt a (search ints), le b (search ints),
-        lt c (search ints), le d (search ints)))
+        same (search ints) (omega (
+          arith,
+          eq e (search ints),
+          eq f (search ints),
+          lt a (search ints),
+          le b (search ints),
+          lt c (search ints),
+          le d (search ints),
+        ))
 
 -- as the code has it
 module _ (carried given d : ℕ) (v : ℤ) (f : d ≡ (carried + 12960000 - given) % 12960000)

@@ -29,7 +29,7 @@ fn word(offsets: &[i64], at: usize) -> Whole
     Whole { v: offsets[at] }
 }
 
-// Whether an offset is within its range: by two comparisons, which cost less than its size.
+// Whether an offset is within its range.
 fn within(z: Whole) -> bool
     ensures { λ r. ⌜ r ≡ leb (natAbs (z .v)) mostOffset ⌝ }
 {
@@ -90,8 +90,7 @@ fn cross(offsets: &[i64], i: usize, j: usize) -> Whole
     ahead.minus(back)
 }
 
-// The station after i, round to the first. It is compared, since a division for each station would
-// cost more than the rest of the sum.
+// The station after i, round to the first, by a comparison.
 fn next(i: usize, n: usize) -> usize
     requires { ⌜ i < n ⌝ }
     ensures { λ r. ⌜ r ≡ (i + 1) % n ⌝ }

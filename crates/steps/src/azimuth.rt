@@ -20,8 +20,7 @@ const TWO_CIRCLES: u32 = 2 * CIRCLE;
 // "Refused (8) exactly when its size exceeds 100 x (n+1)": the tenths that each angle may be off.
 const MOST_PER_ANGLE: u64 = 100;
 
-// A sum of less than three circles, modulo the circle. It is compared and not divided: along the
-// legs each azimuth waits for the one before it.
+// A sum of less than three circles, modulo the circle, by comparisons.
 fn modulo(sum: u32) -> u32
     requires { ⌜ sum < 3 * circle ⌝ }
     ensures { λ r. ⌜ r ≡ sum % circle ⌝ }

@@ -154,7 +154,7 @@ length-spell (f ∷ fs) (v ∷ vs) e =
 -- bytes p that are still to pass are passed over
 past : (p l : List ℕ)
     → ((st : State) (at : ℕ) → walk st at (length p) (p ++ l) ≡ walk st at 0 l) ×
-        (recordsFrom (length p) (p ++ l) ≡ recordsFrom 0 l)
+    (recordsFrom (length p) (p ++ l) ≡ recordsFrom 0 l)
 unfolding walk recordsFrom
 past [] l = (λ st at. refl, refl)
 past (x ∷ p) l = past p l
@@ -175,7 +175,7 @@ module _ (k : ℕ) (vs : List ℤ) (l : List ℕ) (good : goodOf k vs ≡ true) 
   unfolding stepOf bytesOf
   step-back st =
       let whole : bodyOf k < length (bytesOf k vs ++ l) =
-          omega (arith, length-append (bytesOf k vs) l, length-body) in
+      omega (arith, length-append (bytesOf k vs) l, length-body) in
       rw (lt-ltb _ _ whole, numbers-back)
 
   walk-back : (st st′ : State) (at : ℕ) → Next st′ ≡ judge st k true vs
@@ -201,9 +201,10 @@ back-from (r ∷ rs) st at a e =
     let vs = r .values in
     let w = reads-next (judge st k true vs) at _ a e in
     let good = passed st (w .0) k true vs (w .1) .ok in
-    let i = back-from rs (w .0) (at + 1 + bodyOf k) a (w .2) in
-    (walk-back k vs (tapeOf rs) good st (w .0) at (w .1) ∙ i .0,
-    rw (records-back k vs (tapeOf rs) good, i .1))
+    let i = back-from rs (w .0) (at + 1 + bodyOf k) a (w .2) in (
+      walk-back k vs (tapeOf rs) good st (w .0) at (w .1) ∙ i .0,
+      rw (records-back k vs (tapeOf rs) good, i .1),
+    )
 
 -- fields that no refusal tried before 8 meets, written as a tape, read back as the same fields
 pub same-records : (rs : List Rec) (a : State) → fieldsRead rs ≡ Reads a

@@ -183,7 +183,7 @@ module _ (tape : List ℕ) (d : DoesRead tape) (k at : ℕ) (h : LegAt tape k at
       let rest : Rest tape at (r ∷ rs) = rw same (h .rest) in
       let turns-first = pick-yes turns r rs (leg-turns (r .kind) e) in
       let less : r ∷ pick turns rs ≡ drop k (pick turns all) =
-          sym turns-first ∙ rw same (h .less) in (
+      sym turns-first ∙ rw same (h .less) in (
         record {
           rs = rs;
           rest = rw (next-is tape at r rs rest e) (rest-next tape at r rs rest);

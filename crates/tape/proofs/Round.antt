@@ -47,9 +47,11 @@ bytes-num : (w : Width) (l : List ℕ) (k : ℕ) → Bytes l → k + size w ≤ 
 unfolding num bytes
 bytes-num two l k b h =
     let p = b k in
-    let q = b (suc k) in
-    (omega arith, front l k 1 (omega arith) (omega arith)
-    (front l (suc k) 0 (omega arith) (omega arith) refl))
+    let q = b (suc k) in (
+      omega arith,
+      front l k 1 (omega arith) (omega arith)
+          (front l (suc k) 0 (omega arith) (omega arith) refl),
+    )
 bytes-num four l k b h =
     let p = b k in
     let q = b (suc k) in
@@ -104,9 +106,10 @@ again-from st at (suc n) (x ∷ l) a e =
 again-from st at zero (x ∷ l) a e =
     let w = reads-next (stepOf st (x ∷ l)) at _ a e in
     let t = taken-whole st (w .0) x l (w .1) in
-    let i = again-from (w .0) (at + 1 + bodyOf x) (bodyOf x) l a (w .2) in
-    (λ b. rw (record-bytes x l b (t .0), i .0 (λ j. b (suc j)), take-append-drop (bodyOf x) l),
-    rw (← t .1) (i .1))
+    let i = again-from (w .0) (at + 1 + bodyOf x) (bodyOf x) l a (w .2) in (
+      λ b. rw (record-bytes x l b (t .0), i .0 (λ j. b (suc j)), take-append-drop (bodyOf x) l),
+      rw (← t .1) (i .1),
+    )
 
 -- a tape that reads, written again from its fields, is the same bytes
 pub same-bytes : (l : List ℕ) (a : State) → AllBytes l → readingOf l ≡ Reads a

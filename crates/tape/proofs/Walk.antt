@@ -65,7 +65,7 @@ pub step-whole : (st st′ : State) (l : List ℕ) → Next st′ ≡ stepOf st 
 unfolding stepOf
 step-whole st st′ l e =
     let k = getD l 0 0 in
-        ltb-true _ _ (passed st st′ k (ltb (bodyOf k) (length l)) (numbersOf k l) e .whole)
+    ltb-true _ _ (passed st st′ k (ltb (bodyOf k) (length l)) (numbersOf k l) e .whole)
 
 module _ (s : List ℕ) (st : State) (at : ℕ) where
   -- the walk at a place within the tape
@@ -84,7 +84,7 @@ module _ (s : List ℕ) (st : State) (at : ℕ) where
       → n ≡ bodyOf (getD s at 0) → at + 1 + n ≤ length s
   next-whole r n st′ o e b =
       let h : n < length (drop at s) =
-          rw (b, ← head-drop at s) (step-whole st st′ (drop at s) (sym o ∙ e)) in
+      rw (b, ← head-drop at s) (step-whole st st′ (drop at s) (sym o ∙ e)) in
       omega (arith, length-drop at s)
 
   pub walk-next : (r : Step) (n : ℕ) (st′ : State) (w : Reading) → r ≡ Next st′
@@ -93,9 +93,9 @@ module _ (s : List ℕ) (st : State) (at : ℕ) where
       → walk st′ (at + 1 + n) 0 (drop (at + 1 + n) s) ≡ w
   walk-next r n st′ w o e b low h =
       let f : n ≤ length (drop (suc at) s) =
-          omega (arith, length-drop (suc at) s, next-whole r n st′ o e b) in
+      omega (arith, length-drop (suc at) s, next-whole r n st′ o e b) in
       let g : walk st′ (suc at + n) n (drop (suc at) s) ≡ w =
-          rw (at-front low, ← e, o, ← b, add-one) at h in
+      rw (at-front low, ← e, o, ← b, add-one) at h in
       rw (add-one, ← drop-drop n (suc at) s, ← walk-skip st′ (suc at + n) n (drop (suc at) s) f) g
 
   at-end : length s ≤ at

@@ -33,8 +33,11 @@ digitCountIn-enough (suc f) zero n h i =
 digitCountIn-enough (suc f) (suc g) n h i =
     elim (decLt n 10) [
       | yes l ↦ rw (digitCountIn-low (suc f) n l, digitCountIn-low (suc g) n l)
-      | no l ↦ rw (digitCountIn-high f n (omega arith), digitCountIn-high g n (omega arith),
-          digitCountIn-enough f g (n / 10) (omega arith) (omega arith))
+      | no l ↦ rw (
+        digitCountIn-high f n (omega arith),
+        digitCountIn-high g n (omega arith),
+        digitCountIn-enough f g (n / 10) (omega arith) (omega arith),
+      )
     ]
 
 pub digitCount-low : (n : ℕ) → n < 10 → digitCount n ≡ 1
@@ -43,8 +46,10 @@ digitCount-low n h = digitCountIn-low n n h
 pub digitCount-high : (n : ℕ) → 10 ≤ n → digitCount n ≡ 1 + digitCount (n / 10)
 digitCount-high zero h = absurd (omega arith)
 digitCount-high (suc n) h =
-    rw (digitCountIn-high n (suc n) h,
-    digitCountIn-enough n (suc n / 10) (suc n / 10) (omega arith) (omega arith))
+    rw (
+      digitCountIn-high n (suc n) h,
+      digitCountIn-enough n (suc n / 10) (suc n / 10) (omega arith) (omega arith),
+    )
 
 -- few steps are enough for few digits
 digitCountIn-short : (f n : ℕ) → n < 10 ^ suc f → digitCountIn f n ≡ digitCount n
@@ -53,8 +58,11 @@ digitCountIn-short zero n h =
 digitCountIn-short (suc f) n h =
     elim (decLt n 10) [
       | yes l ↦ rw (digitCountIn-low (suc f) n l, digitCount-low n l)
-      | no l ↦ rw (digitCountIn-high f n (omega arith), digitCount-high n (omega arith),
-          digitCountIn-short f (n / 10) (omega arith))
+      | no l ↦ rw (
+        digitCountIn-high f n (omega arith),
+        digitCount-high n (omega arith),
+        digitCountIn-short f (n / 10) (omega arith),
+      )
     ]
 
 pub decimal-short : (f n : ℕ) → n < 10 ^ suc f → decimal n ≡ digits (digitCountIn f n) n
@@ -81,8 +89,11 @@ digitCount-hold zero n h =
 digitCount-hold (suc k) n h =
     elim (decLt n 10) [
       | yes l ↦ omega (arith, pow-suc 10 k, one-le-pow k 10 (omega arith))
-      | no l ↦ omega (arith, pow-suc 10 k,
-          digitCount-hold k (n / 10) (omega (arith, digitCount-high n (omega arith))))
+      | no l ↦ omega (
+        arith,
+        pow-suc 10 k,
+        digitCount-hold k (n / 10) (omega (arith, digitCount-high n (omega arith))),
+      )
     ]
 
 pub digitCount-fewest : (k n : ℕ) → suc k < digitCount n → 10 ^ suc k ≤ n
@@ -133,7 +144,7 @@ unfolding digits
 last-digit l at k n =
     sets-last (digits k (n / 10)) l (48 + n % 10) at
     ∙ ap (λ (i : ℕ). sets (set l (at + i) (48 + n % 10)) at (digits k (n / 10)))
-        (digits-length k (n / 10))
+    (digits-length k (n / 10))
 
 -- the bytes of two digits
 bytes-of : (a b t : ℕ) → a < 10 → b < 10 → t ≡ 48 + a + 256 * (48 + b)
@@ -171,7 +182,7 @@ module _ (l : List ℕ) (at k n : ℕ) where
         let tens : rest % 100 / 10 ≡ rest / 10 % 10 = omega arith in
         let units : rest % 100 % 10 ≡ rest % 10 = omega arith in
         let (first, last) = bytes-of (rest / 10 % 10) (rest % 10) t (omega arith) (omega arith)
-            (f ∙ rw (tens, units)) in
+        (f ∙ rw (tens, units)) in
         let both : rest / 100 ≡ rest / 10 / 10 = omega arith in
         let next : at + j + 1 ≡ at + suc j = omega arith in
         rw (i, last, first, both, next)
@@ -190,8 +201,10 @@ module _ (l : List ℕ) (at k n : ℕ) where
     odd-last left e h i =
         let f : left ≡ 1 = omega arith in
         let g : at + 0 ≡ at = omega arith in
-        record { bytes = rw g at (sym (last-digit m at 0 rest) ∙ rw f at e);
-            next = ap (λ (j : ℕ). at + j) (sym (digits-length k n)) }
+        record {
+          bytes = rw g at (sym (last-digit m at 0 rest) ∙ rw f at e);
+          next = ap (λ (j : ℕ). at + j) (sym (digits-length k n));
+        }
 
 -- as many digits as the number has
 module _ (l m : List ℕ) (at k n r : ℕ) (e : k ≡ digitCount n) where

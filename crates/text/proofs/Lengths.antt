@@ -22,8 +22,11 @@ pointed-most : (d k n : ℕ) → n < 10 ^ suc k → length (pointed d n) ≤ 2 +
 unfolding pointed
 pointed-most d k n h =
     simp length-append
-    (omega (arith, decimal-most k (n / 10 ^ d) (lt-of-le-of-lt (div-le-self n (10 ^ d)) h),
-    digits-length d n))
+    (omega (
+      arith,
+      decimal-most k (n / 10 ^ d) (lt-of-le-of-lt (div-le-self n (10 ^ d)) h),
+      digits-length d n,
+    ))
 
 pub amount-most : (plus : List ℕ) (d k : ℕ) (z : ℤ) → length plus ≤ 1 → natAbs z < 10 ^ suc k
     → length (amount plus d z) ≤ 3 + k + d
@@ -31,7 +34,7 @@ unfolding amount sign
 amount-most plus d k z h i =
     let n = pointed-most d k (natAbs z) i in
     by-test (λ (l : List ℕ). length (l ++ pointed d (natAbs z)) ≤ 3 + k + d) (ltZ z (pos 0))
-        (λ e. omega (arith, n))
+    (λ e. omega (arith, n))
     (λ e. omega (arith, length-append plus (pointed d (natAbs z)), n))
 
 -- ---- room for digits, and for every number of 64 bits, where enough bytes are left after an

@@ -21,8 +21,11 @@ pub sets-last : (xs l : List ℕ) (y i : ℕ)
 sets-last [] l y i = let e : i + 0 ≡ i = omega arith in rw e
 sets-last (x ∷ xs) l y i =
     let e : i + suc (length xs) ≡ suc i + length xs = omega arith in
-    rw (sets-last xs (set l i x) y (suc i), e,
-    set-comm l i (suc i + length xs) x y (λ f. omega arith))
+    rw (
+      sets-last xs (set l i x) y (suc i),
+      e,
+      set-comm l i (suc i + length xs) x y (λ f. omega arith),
+    )
 
 -- ---- one text after another
 module _ (l : List ℕ) (at : ℕ) (xs ys : List ℕ) where
@@ -34,8 +37,10 @@ module _ (l : List ℕ) (at : ℕ) (xs ys : List ℕ) where
     room-then h = rw (p .bytes, length-sets l at xs) (omega (arith, length-append xs ys, p .next))
 
     pub then : (n : List ℕ) (r : ℕ) → Put m i ys n r → Put l at (xs ++ ys) n r
-    then n r q = record { bytes = q .bytes ∙ rw (p .bytes, p .next) (sets-then xs ys l at);
-        next = q .next ∙ omega (arith, length-append xs ys, p .next) }
+    then n r q = record {
+      bytes = q .bytes ∙ rw (p .bytes, p .next) (sets-then xs ys l at);
+      next = q .next ∙ omega (arith, length-append xs ys, p .next);
+    }
 
 -- ---- each of three texts, where there is room for all
 module _ (l : List ℕ) (at : ℕ) (a b c : List ℕ) (h : Room l at (a ++ b ++ c)) where

@@ -35,8 +35,11 @@ digits-back : (k n : ℕ) → spelled (n / 10 ^ k) (digits k n) ≡ n
 unfolding digits spelled
 digits-back zero n = div-one n
 digits-back (suc k) n =
-    rw (tenth-first k n, spelled-append (n / 10 / 10 ^ k) (digits k (n / 10)) _,
-    digits-back k (n / 10)) (digit-back (n / 10) (n % 10) (omega arith) ∙ omega arith)
+    rw (
+      tenth-first k n,
+      spelled-append (n / 10 / 10 ^ k) (digits k (n / 10)) _,
+      digits-back k (n / 10),
+    ) (digit-back (n / 10) (n % 10) (omega arith) ∙ omega arith)
 
 minus-digits : (k n : ℕ) → minus (digits k n) ≡ false
 unfolding digits
@@ -59,8 +62,11 @@ module _ (d n : ℕ) where
   pointed-back : spelled 0 (pointed d n) ≡ n
   unfolding pointed spelled
   pointed-back =
-      rw (spelled-append 0 (whole ++ ascii ".") (digits d n), spelled-append 0 whole (ascii "."),
-      decimal-back (n / 10 ^ d)) (digits-back d n)
+      rw (
+        spelled-append 0 (whole ++ ascii ".") (digits d n),
+        spelled-append 0 whole (ascii "."),
+        decimal-back (n / 10 ^ d),
+      ) (digits-back d n)
 
   minus-pointed : minus (pointed d n) ≡ false
   unfolding pointed decimal
@@ -74,8 +80,13 @@ amount-back : (plus : List ℕ) → minus plus ≡ false → spelled 0 plus ≡ 
     → amountRead (amount plus d z) ≡ z
 unfolding amount sign amountRead spelled
 amount-back plus m s d (pos n) =
-    rw (le-ltb n 0 (omega arith), minus-append plus (pointed d n) m (minus-pointed d n),
-    spelled-append 0 plus (pointed d n), s, pointed-back d n)
+    rw (
+      le-ltb n 0 (omega arith),
+      minus-append plus (pointed d n) m (minus-pointed d n),
+      spelled-append 0 plus (pointed d n),
+      s,
+      pointed-back d n,
+    )
 amount-back plus m s d (negsuc n) = rw (pointed-back d (suc n))
 
 pub signed-back : (d : ℕ) (z : ℤ) → amountRead (signed d z) ≡ z

@@ -37,7 +37,7 @@ fn long_digit_count(n: u64) -> usize
     k
 }
 
-// How many digits a number of 32 bits has, by comparisons: no digit takes a division.
+// How many digits a number of 32 bits has, by comparisons.
 fn digit_count(n: u32) -> usize
     ensures { λ r. ⌜ r ≡ digitCount n ⌝ }
 {
@@ -87,7 +87,7 @@ pub fn put_digits(out: &mut [u8], at: usize, n: u64, k: usize) -> usize
 }
 
 // The last k digits of a number of 32 bits, two digits a turn. Nearly every number of a sheet is
-// one, and this halves the divisions.
+// one.
 fn put_pairs(out: &mut [u8], at: usize, n: u32, k: usize) -> usize
     requires { ⌜ Room (now out) at (digits k n) ⌝ }
     ensures { λ r. ⌜ Put (now (out .entry)) at (digits k n) (now (out .exit)) r ⌝ }

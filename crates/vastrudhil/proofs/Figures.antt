@@ -47,9 +47,10 @@ sized : (e : ℕ → ℤ) → Entries e → (tape : List ℕ) (room : ℕ) (a : 
 sized e entries tape room (Refused n p) h = (omega arith, omega arith)
 sized e entries tape room (Adjusted f) h =
     let s = accepted-sized e tape room entries
-        (accepted e tape room (ap (λ (t : ToldTraverse). t .number) (sym h))) in
-    (omega (arith, ap (λ (t : ToldTraverse). t .legs) h, s .legs),
-        omega (arith, ap (λ (t : ToldTraverse). t .precision) h, s .precision))
+    (accepted e tape room (ap (λ (t : ToldTraverse). t .number) (sym h))) in (
+      omega (arith, ap (λ (t : ToldTraverse). t .legs) h, s .legs),
+      omega (arith, ap (λ (t : ToldTraverse). t .precision) h, s .precision),
+    )
 
 module _ (tape : List ℕ) (room : ℕ) (a : Answer) where
   pub own-fits : toldTraverse a ≡ traversedBy entry tape room
@@ -83,9 +84,14 @@ module _ (all : List Whole) (room : length all ≡ 7) where
   pub stored-next : (k : ℕ) (l m : List ℤ) → k < 7 → length l ≡ 7 → take k l ≡ take k (values all)
       → m ≡ set l k (getD all k none .v) → take (k + 1) m ≡ take (k + 1) (values all)
   stored-next k l m h r e f =
-      rw (f, add-one k, take-suc-set l k (getD all k none .v) (omega arith),
-      take-suc (values all) k (pos 0) (omega (arith, values-length all)),
-      values-at all k (omega arith), e)
+      rw (
+        f,
+        add-one k,
+        take-suc-set l k (getD all k none .v) (omega arith),
+        take-suc (values all) k (pos 0) (omega (arith, values-length all)),
+        values-at all k (omega arith),
+        e,
+      )
 
   pub stored-all : (k : ℕ) (l : List ℤ) → 7 ≤ k → length l ≡ 7 → take k l ≡ take k (values all)
       → l ≡ values all

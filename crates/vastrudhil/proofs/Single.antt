@@ -44,9 +44,12 @@ pub write-single : (given : Record) (out : List ℕ) (at : ℕ) (l m : List ℕ)
     → (n ≡ n′) × (p ≡ p′) × (q ≡ q′) × (l ≡ m)
 write-single given out at l m p q n p′ q′ n′ x y =
     let s = x .tells in
-    let t = y .tells in
-    (s .number ∙ sym (t .number), s .place ∙ sym (t .place), s .next ∙ sym (t .next),
-    x .left ∙ sym (y .left))
+    let t = y .tells in (
+      s .number ∙ sym (t .number),
+      s .place ∙ sym (t .place),
+      s .next ∙ sym (t .next),
+      x .left ∙ sym (y .left),
+    )
 
 -- ---- the reading, the traverse and the sheet, the last two by any table of sines
 -- `vas_read`
@@ -69,6 +72,9 @@ pub sheet-single : (e : ℕ → ℤ) (tape out l m : List ℕ) (p q n p′ q′ 
     → (n ≡ n′) × (p ≡ p′) × (q ≡ q′) × (l ≡ m)
 sheet-single e tape out l m p q n p′ q′ n′ x y =
     let s = x .tells in
-    let t = y .tells in
-    (s .number ∙ sym (t .number), s .place ∙ sym (t .place), s .used ∙ sym (t .used),
-    x .left ∙ sym (y .left))
+    let t = y .tells in (
+      s .number ∙ sym (t .number),
+      s .place ∙ sym (t .place),
+      s .used ∙ sym (t .used),
+      x .left ∙ sym (y .left),
+    )

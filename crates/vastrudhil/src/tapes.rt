@@ -11,8 +11,7 @@ ghost use Rattle.tape.specs.Tape.{toldReading};
 ghost use Rattle.desk.specs.Answer.{traversed, traversedWords, traversedBy, traversedWordsBy};
 ghost use Rattle.vastrudhil.specs.Face.{TellsReading, TellsTraverse, ShowsSheet};
 
-// The reading, by refusals 2 to 7: by `take`, as the traverse and the sheet read, so that the
-// reading is compiled once.
+// The reading, by refusals 2 to 7: by `take`, as the traverse and the sheet read.
 #[no_mangle]
 pub extern "C" fn vas_read(tape: &[u8], place: &mut usize) -> u32
     ensures { λ r. ⌜ TellsReading (toldReading (readingOf (now (tape .entry))))

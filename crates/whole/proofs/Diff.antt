@@ -88,17 +88,22 @@ abbrev pub var : (z : ℤ) → Diff z
 var z = record { p = up z; n = dn z; ok = refl }
 
 abbrev pub add : {x y : ℤ} → Diff x → Diff y → Diff (x +ℤ y)
-add {x} {y} d e = record
-    { p = d .p + e .p; n = d .n + e .n;
-    ok = is-add x y (d .p) (d .n) (e .p) (e .n) (d .ok) (e .ok) }
+add {x} {y} d e = record {
+  p = d .p + e .p;
+  n = d .n + e .n;
+  ok = is-add x y (d .p) (d .n) (e .p) (e .n) (d .ok) (e .ok);
+}
 
 abbrev pub neg : {x : ℤ} → Diff x → Diff (negℤ x)
 neg {x} d = record { p = d .n; n = d .p; ok = is-neg x (d .p) (d .n) (d .ok) }
 
 abbrev pub mul : {x y : ℤ} → Diff x → Diff y → Diff (x *ℤ y)
 mul {x} {y} d e =
-    record { p = d .p * e .p + d .n * e .n; n = d .p * e .n + d .n * e .p;
-        ok = is-mul x y (d .p) (d .n) (e .p) (e .n) (d .ok) (e .ok) }
+    record {
+      p = d .p * e .p + d .n * e .n;
+      n = d .p * e .n + d .n * e .p;
+      ok = is-mul x y (d .p) (d .n) (e .p) (e .n) (d .ok) (e .ok);
+    }
 
 abbrev pub nat : (k : ℕ) → Diff (pos k)
 nat k = record { p = k; n = 0; ok = refl }

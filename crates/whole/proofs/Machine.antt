@@ -127,8 +127,12 @@ module _ (z : ℤ) (m : mag z < 2 ^ 63) (e : ltZ (back z) (pos 0) ≡ true) wher
   one-more = rw (back-all z m) (rest-is .2)
 
   turned : pos 0 -ℤ back (back z +ℤ pos 1) ≡ pos rest
-  turned = rw (one-more, back-is (negℤ (pos rest)) (rw (abs-neg (pos rest)) (rest-is .1)),
-      negℤ-negℤ (pos rest), +ℤ-idl (pos rest))
+  turned = rw (
+    one-more,
+    back-is (negℤ (pos rest)) (rw (abs-neg (pos rest)) (rest-is .1)),
+    negℤ-negℤ (pos rest),
+    +ℤ-idl (pos rest),
+  )
 
   abbrev again : ℤ
   again = back (pos 0 -ℤ back (back z +ℤ pos 1))

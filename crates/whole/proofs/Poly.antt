@@ -170,7 +170,7 @@ module _ (ρ : List ℤ) where
   unfolding evp
   join-ok true c m d n p r e h =
       rw (add-mul c d (evm ρ m), +ℤ-assoc (c *ℤ evm ρ m) (d *ℤ evm ρ m) (evp ρ p))
-          (ap (λ (x : Mono). c *ℤ evm ρ m +ℤ (d *ℤ evm ρ x +ℤ evp ρ p)) (e tt))
+      (ap (λ (x : Mono). c *ℤ evm ρ m +ℤ (d *ℤ evm ρ x +ℤ evp ρ p)) (e tt))
   join-ok false c m d n p r e h = order-ok (ltm m n) c m d n p r h
 
   insert-ok : (c : ℤ) (m : Mono) (p : Poly) → Inserted c m p (insert c m p)
@@ -190,8 +190,12 @@ module _ (ρ : List ℤ) where
   scale-ok c m nil = sym (*ℤ-zero (c *ℤ evm ρ m))
   scale-ok c m (term d n p) =
       insert-ok (c *ℤ d) (mulm m n) (scale c m p)
-      ∙ rw (mulm-ok m n, scale-ok c m p, turn c d (evm ρ m) (evm ρ n),
-      mul-add (c *ℤ evm ρ m) (d *ℤ evm ρ n) (evp ρ p))
+      ∙ rw (
+        mulm-ok m n,
+        scale-ok c m p,
+        turn c d (evm ρ m) (evm ρ n),
+        mul-add (c *ℤ evm ρ m) (d *ℤ evm ρ n) (evp ρ p),
+      )
 
   mulp-ok : (p q : Poly) → evp ρ (mulp p q) ≡ evp ρ p *ℤ evp ρ q
   unfolding evp

@@ -76,7 +76,7 @@ pub by-zeros : (ρ : List ℤ) (e f : Exp) → T (zeros (norm (differ e f))) →
 by-zeros ρ e f t =
     sym (-ℤ-+ℤ-cancel (value ρ e) (value ρ f))
     ∙ ap (λ (z : ℤ). z +ℤ value ρ f)
-        (sym (norm-ok ρ (differ e f)) ∙ zeros-ok ρ (norm (differ e f)) t)
+    (sym (norm-ok ρ (differ e f)) ∙ zeros-ok ρ (norm (differ e f)) t)
     ∙ +ℤ-idl (value ρ f)
 
 pub ring : (ρ : List ℤ) {x y : ℤ} (d : Reads ρ → Reading ρ x y)
@@ -89,8 +89,11 @@ ring ρ d t = let s = d (reads ρ) in
 abbrev pub diff : (ρ : List ℤ) {x : ℤ} → Read ρ x → Diff x
 diff ρ d =
     let q = norm (d .e) in
-    record { p = ups ρ q; n = dns ρ q;
-        ok = subst (λ (z : ℤ). Is z (ups ρ q) (dns ρ q)) (norm-ok ρ (d .e) ∙ d .ok) (poly-is ρ q) }
+    record {
+      p = ups ρ q;
+      n = dns ρ q;
+      ok = subst (λ (z : ℤ). Is z (ups ρ q) (dns ρ q)) (norm-ok ρ (d .e) ∙ d .ok) (poly-is ρ q);
+    }
 
 abbrev pub poly : (ρ : List ℤ) {x y : ℤ} → Reading ρ x y → Sides x y
 poly ρ s = sides (diff ρ (s .left)) (diff ρ (s .right))

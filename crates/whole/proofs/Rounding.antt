@@ -24,8 +24,10 @@ half-up n d h = go (halfUp n d) (div-mul-le-self (2 * n + d) (2 * d))
     go k lo hi =
         let x : Diff (pos n -ℤ pos k *ℤ pos d) = search ints in
         let c = abs-cases _ x in
-        record { close = ⊎-elim (λ w. omega arith) (λ w. omega arith) c;
-            away = λ e. ⊎-elim (λ w. omega arith) (λ w. omega arith) c }
+        record {
+          close = ⊎-elim (λ w. omega arith) (λ w. omega arith) c;
+          away = λ e. ⊎-elim (λ w. omega arith) (λ w. omega arith) c;
+        }
 
 turned : (z q : ℤ) (d : ℕ) → negℤ z -ℤ negℤ q *ℤ pos d ≡ negℤ (z -ℤ q *ℤ pos d)
 turned z q d = ring (z ∷ q ∷ pos d ∷ []) (λ v. search exps) tt
@@ -82,8 +84,10 @@ nearest-neg z d h = sym
 pub nearest-multiple : (q : ℤ) (d : ℕ) → 0 < d → nearest (q *ℤ pos d) d ≡ q
 nearest-multiple q d h =
     sym (nearest-unique (q *ℤ pos d) d q h
-        (record { close = rw (sub-self (q *ℤ pos d)) (omega arith);
-        away = λ e. omega (arith, abs-mul q (pos d)) }))
+    (record {
+      close = rw (sub-self (q *ℤ pos d)) (omega arith);
+      away = λ e. omega (arith, abs-mul q (pos d));
+    }))
 
 pub nearest-zero : (d : ℕ) → 0 < d → nearest (pos 0) d ≡ pos 0
 nearest-zero d h = ap (λ (z : ℤ). nearest z d) (sym (zero-*ℤ (pos d))) ∙ nearest-multiple
@@ -108,8 +112,11 @@ nearest-mono {y = negsuc m} {z = negsuc n} d h low = let i =
 -- ---- its size
 pub half-up-most : (n d k : ℕ) → 0 < d → n ≤ k * d → halfUp n d ≤ k
 half-up-most n d k h low =
-    omega (arith, div-lt-iff-lt-mul {k = 2 * d} {x = 2 * n + d} {y = k + 1} (omega arith) .1
-    (omega arith))
+    omega (
+      arith,
+      div-lt-iff-lt-mul {k = 2 * d} {x = 2 * n + d} {y = k + 1} (omega arith) .1
+          (omega arith),
+    )
 
 -- no rounding makes an amount larger
 pub half-up-least : (n d : ℕ) → 0 < d → halfUp n d ≤ n

@@ -14,8 +14,12 @@ pub sumTo-size : (f : ℕ → ℤ) (n k : ℕ) → ((i : ℕ) → i < n → natA
 unfolding sumTo
 sumTo-size f zero k h = omega arith
 sumTo-size f (suc n) k h =
-    omega (arith, triangle (sumTo f n) (f n), h n (omega arith),
-    sumTo-size f n k (λ i low. h i (omega arith)))
+    omega (
+      arith,
+      triangle (sumTo f n) (f n),
+      h n (omega arith),
+      sumTo-size f n k (λ i low. h i (omega arith)),
+    )
 
 -- what is added step by step is the last less the first
 pub telescope : (f : ℕ → ℤ) (n : ℕ) → sumTo (λ (i : ℕ). f (suc i) -ℤ f i) n ≡ f n -ℤ f 0

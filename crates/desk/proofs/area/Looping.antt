@@ -37,9 +37,13 @@ module _ (words : List ℤ) where
   unfolding takenFrom
   taken-length zero = refl
   taken-length (suc k) =
-      omega (arith, length-append (takenFrom words k)
-      ((wordAt words (2 * k) -ℤ wordAt words 0) ∷
-      (wordAt words (2 * k + 1) -ℤ wordAt words 1) ∷ []), taken-length k)
+      omega (
+        arith,
+        length-append (takenFrom words k)
+            ((wordAt words (2 * k) -ℤ wordAt words 0) ∷
+            (wordAt words (2 * k + 1) -ℤ wordAt words 1) ∷ []),
+        taken-length k,
+      )
 
   -- the two words of its last station, and of any
   taken-last : (axis : Axis) (k : ℕ)
@@ -92,8 +96,10 @@ module _ (words : List ℤ) where
       pub ranged : Ranged o
       ranged =
           let l = takenFrom words n in
-          record { north = rw north-is (small-at l (2 * k) (p .near) (taken-room north k n h));
-              east = rw east-is (small-at l (2 * k + 1) (p .near) (taken-room east k n h)) }
+          record {
+            north = rw north-is (small-at l (2 * k) (p .near) (taken-room north k n h));
+            east = rw east-is (small-at l (2 * k + 1) (p .near) (taken-room east k n h));
+          }
 
     -- ---- the sum
     pub sum-next : (i : ℕ) (here there : Offsets) (sum z r : ℤ) → r ≡ sum +ℤ z
@@ -106,8 +112,12 @@ module _ (words : List ℤ) where
         let l = takenFrom words n in
         let k : i < n = omega arith in
         let c : z ≡ cross l i (i + 1) =
-            f ∙ rw (north-is i here k s, east-is i here k s, north-is (i + 1) there h t,
-            east-is (i + 1) there h t) in
+        f ∙ rw (
+          north-is i here k s,
+          east-is i here k s,
+          north-is (i + 1) there h t,
+          east-is (i + 1) there h t,
+        ) in
         round-next l i n (i + 1) sum z r e c (next-on i n k (λ q. omega arith)) g
         (sym (taken-length n))
 
@@ -127,5 +137,5 @@ module _ (words : List ℤ) where
         let l = takenFrom words n in
         let m = sym (taken-length n) in
         let last = round-next l i n 0 sum (pos 0) sum (sym (+ℤ-idr sum)) (last-nothing i)
-            (next-first i n (omega arith)) e m in
+        (next-first i n (omega arith)) e m in
         round-last l (i + 1) n sum last (omega arith) (omega arith) m

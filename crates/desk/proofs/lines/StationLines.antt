@@ -36,8 +36,11 @@ module _ (words : List ℤ) where
   lines-up k zero h = let e : k ≡ 0 = omega arith in rw e (omega arith)
   lines-up k (suc n) h =
       ⊎-elim (λ e. rw e (omega arith))
-      (λ low. omega (arith, lines-up k n (omega arith),
-      length-append (stationLines words n) (lineOf words n)))
+      (λ low. omega (
+        arith,
+        lines-up k n (omega arith),
+        length-append (stationLines words n) (lineOf words n),
+      ))
       (eq-or-lt-of-le h)
 
   pub lines-first : (l : List ℕ) (at : ℕ) → Put l at (stationLines words 0) l at

@@ -13,8 +13,10 @@ mul-half-up c = let s = c .before .args in
 
 half-up-requires : tie.Need-half-up-requires
 half-up-requires c κs = let s =
-    c .before .args in (omega (arith, rise-most (s .e - s .f) (s .r) (omega arith) (omega arith)),
-    (search needs, search needs))
+    c .before .args in (
+      omega (arith, rise-most (s .e - s .f) (s .r) (omega arith) (omega arith)),
+      (search needs, search needs),
+    )
 
 -- the step goes no further down than the next entry
 down-to : (c : tie.After-half-up) → let s = c .before .before .args in
@@ -30,9 +32,10 @@ sub-result c = omega (arith, down-to c)
 
 returns-2 : tie.Need-returns-2
 returns-2 c = let s =
-    c .before .before .args in
-    (rw (c .half-up .ensures .0) (falling (s .e) (s .f) (s .r) (omega arith) (omega arith)),
-    omega arith)
+    c .before .before .args in (
+      rw (c .half-up .ensures .0) (falling (s .e) (s .f) (s .r) (omega arith) (omega arith)),
+      omega arith,
+    )
 
 pub between-spec : {M : Type 1} → statement M
 between-spec =

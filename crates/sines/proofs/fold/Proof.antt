@@ -9,8 +9,11 @@ use Rattle.sines.proofs.fold.Statement.{statement}
 use Rattle.sines.proofs.fold.Tie as tie
 
 returns : tie.Need-returns
-returns c = (⊎-elim (λ w. w .1 ∙ third _ (w .0 .taken) (omega arith))
-    (λ w. w .1 ∙ first _ (omega arith)) (c .before .if1 .came), search needs)
+returns c = (
+  ⊎-elim (λ w. w .1 ∙ third _ (w .0 .taken) (omega arith))
+      (λ w. w .1 ∙ first _ (omega arith)) (c .before .if1 .came),
+  search needs,
+)
 
 sub-result : tie.Need-sub-result
 sub-result c = ⊎-elim (λ w. omega arith) (λ w. omega arith) (c .before .before .if1 .came)
@@ -22,7 +25,7 @@ returns-2 c =
       ⊎-elim
           (λ w. let e : 6480000 - h ≡ 12960000 - a = omega arith in e ∙ fourth a (omega arith))
           (λ w. let e : 6480000 - h ≡ 6480000 - a = omega arith in
-              e ∙ second a (omega arith) (w .0 .left))
+          e ∙ second a (omega arith) (w .0 .left))
           (c .before .before .if1 .came),
       search needs,
     )

@@ -8,9 +8,10 @@ use Rattle.sines.proofs.past_minute.Statement.{statement}
 use Rattle.sines.proofs.past_minute.Tie as tie
 
 returns : tie.Need-returns
-returns c =
-    (lent-line _ _ _ _ _ (c .rise .ensures .0) _ (omega arith) (omega arith) (omega arith),
-    search needs)
+returns c = (
+  lent-line _ _ _ _ _ (c .rise .ensures .0) _ (omega arith) (omega arith) (omega arith),
+  search needs,
+)
 
 returns-2 : tie.Need-returns-2
 returns-2 c = (search lent-line, search needs)

@@ -13,8 +13,10 @@ mul-half-up c = let s = c .args in
 
 half-up-requires : tie.Need-half-up-requires
 half-up-requires c κs = let s =
-    c .args in (omega (arith, rise-most (s .f - s .e) (s .r) (omega arith) (omega arith)),
-    (search needs, search needs))
+    c .args in (
+      omega (arith, rise-most (s .f - s .e) (s .r) (omega arith) (omega arith)),
+      (search needs, search needs),
+    )
 
 -- the step goes no further than the next entry
 up-to : (c : tie.After-half-up) → let s = c .before .args in s .e + c .half-up .result ≤ s .f
@@ -28,9 +30,10 @@ add-result : tie.Need-add-result
 add-result c = record { fits = omega (arith, up-to c) }
 
 returns : tie.Need-returns
-returns c = let s = c .before .args in
-    (rw (c .half-up .ensures .0) (rising (s .e) (s .f) (s .r) (omega arith)),
-    omega (arith, up-to c))
+returns c = let s = c .before .args in (
+  rw (c .half-up .ensures .0) (rising (s .e) (s .f) (s .r) (omega arith)),
+  omega (arith, up-to c),
+)
 
 pub rise-spec : {M : Type 1} → statement M
 rise-spec =

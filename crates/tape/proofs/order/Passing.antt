@@ -324,7 +324,7 @@ module _ (s : List ℕ) (c : Cursor) where
     unfolding mayCome
     leg-comes =
         ⊎-elim (λ (q : st .phase ≡ lineBegun). rw (q, here))
-            (λ (q : st .phase ≡ afterLeg). rw (q, here)) p
+        (λ (q : st .phase ≡ afterLeg). rw (q, here)) p
 
     pub leg-full : 64 ≤ st .legs → Passes s c 6 (pastLeg s c)
     unfolding roomOf
@@ -386,7 +386,7 @@ module _ (s : List ℕ) (c : Cursor) where
     no-close =
         ⊎-elim
         (λ (p : st .phase ≡ lineBegun) r h. not-due 4 n e (inPhase closed st) (at + 17)
-            (λ z. omega arith) (λ i. rw (p, r)) h)
+        (λ z. omega arith) (λ i. rw (p, r)) h)
         (λ (p : st .phase ≡ afterLeg) r h.
         not-due 4 n e (inPhase closed st) (at + 17) (λ z. omega arith)
         (λ i. rw (p, r, ne-eqb (getD s at 0) 4 i)) h)
@@ -403,7 +403,7 @@ module _ (s : List ℕ) (c : Cursor) where
         unfolding mayCome
         close-comes =
             ⊎-elim (λ (p : st .phase ≡ lineBegun). absurd (some p))
-                (λ (p : st .phase ≡ afterLeg). rw p) line
+            (λ (p : st .phase ≡ afterLeg). rw p) line
 
         close-due : Due 4
         unfolding roomOf

@@ -9,9 +9,19 @@ area-requires : tie.Need-area-requires
 area-requires c κs = search ranged-at
 
 returns : tie.Need-returns
-returns c = (search needs,
-    record { room = search needs; legs = refl; w = refl; north = refl; east = refl;
-    precise = search needs; looped = search needs; area = cc })
+returns c = (
+  search needs,
+  record {
+    room = search needs;
+    legs = refl;
+    w = refl;
+    north = refl;
+    east = refl;
+    precise = search needs;
+    looped = search needs;
+    area = cc;
+  },
+)
 
 pub adjust-all-spec : {M : Type 1} → statement M
 adjust-all-spec =

@@ -9,8 +9,13 @@ closing-requires : tie.Need-closing-requires
 closing-requires c κs = search (end-small, lent-entries)
 
 returns : tie.Need-returns
-returns c = record { sound = search needs; room = search needs; room-run = search needs;
-    ran = search needs; closed = search (closed-at, lent-entries) }
+returns c = record {
+  sound = search needs;
+  room = search needs;
+  room-run = search needs;
+  ran = search needs;
+  closed = search (closed-at, lent-entries);
+}
 
 pub closures-spec : {M : Type 1} → statement M
 closures-spec =

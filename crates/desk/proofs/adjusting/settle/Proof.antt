@@ -9,14 +9,16 @@ use Rattle.desk.proofs.adjusting.settle.Statement.{statement}
 use Rattle.desk.proofs.adjusting.settle.Tie as tie
 
 within-limit-requires : tie.Need-within-limit-requires
-within-limit-requires c κs =
-    ((search (north-small, lent-entries), search (east-small, lent-entries)),
-    (search (run-far, lent-entries), search (run-most-left, lent-entries)))
+within-limit-requires c κs = (
+  (search (north-small, lent-entries), search (east-small, lent-entries)),
+  (search (run-far, lent-entries), search (run-most-left, lent-entries)),
+)
 
 adjust-all-requires : tie.Need-adjust-all-requires
-adjust-all-requires c κs =
-    (search (shared, lent-entries),
-    (search (near, lent-entries), (search needs, search (passed-words, lent-entries))))
+adjust-all-requires c κs = (
+  search (shared, lent-entries),
+  (search (near, lent-entries), (search needs, search (passed-words, lent-entries))),
+)
 
 returns : tie.Need-returns
 returns c = (search (passed-told, lent-entries), search (words-near, lent-entries))

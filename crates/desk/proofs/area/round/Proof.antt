@@ -22,18 +22,26 @@ abbrev μ-loop : tie.MeasureT-loop
 μ-loop words n sum₀ here₀ i₀ sum here i = n - i
 
 offsets-at-requires : tie.Need-offsets-at-requires Inv-loop μ-loop
-offsets-at-requires c κs =
-    (search needs, ((search first-north-fits, search first-north-fits),
-    (search first-east-fits, search first-east-fits)))
+offsets-at-requires c κs = (
+  search needs,
+  (
+    (search first-north-fits, search first-north-fits),
+    (search first-east-fits, search first-east-fits),
+  ),
+)
 
 loop-holds : tie.Need-loop-holds Inv-loop μ-loop
 unfolding doubledTo sumTo
 loop-holds c = (search needs, search needs, refl, search needs)
 
 offsets-at-requires-2 : tie.Need-offsets-at-requires-2 Inv-loop μ-loop
-offsets-at-requires-2 c κs =
-    (search needs, ((search north-fits, search first-north-fits),
-    (search east-fits, search first-east-fits)))
+offsets-at-requires-2 c κs = (
+  search needs,
+  (
+    (search north-fits, search first-north-fits),
+    (search east-fits, search first-east-fits),
+  ),
+)
 
 cross-requires : tie.Need-cross-requires Inv-loop μ-loop
 cross-requires c κs = (search ranged, search ranged)

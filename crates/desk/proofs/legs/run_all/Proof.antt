@@ -24,21 +24,42 @@ abbrev μ-loop : tie.MeasureT-loop
 μ-loop table b azimuths distances spots₀ runs₀ s₀ k₀ spots runs s k = b .legs - k
 
 loop-holds : tie.Need-loop-holds Inv-loop μ-loop
-loop-holds c = (search needs, search needs, search stands-first, search ran-first, search needs,
-    search needs, search needs, search needs, search needs, search needs)
+loop-holds c = (
+  search needs,
+  search needs,
+  search stands-first,
+  search ran-first,
+  search needs,
+  search needs,
+  search needs,
+  search needs,
+  search needs,
+  search needs,
+)
 
 advance-requires : tie.Need-advance-requires Inv-loop μ-loop
 advance-requires c κs =
-    let inv = c .before .before .loop .inv in
-    ((search needs, search needs),
-    (search leg-sound, stands-small _ (lent-entries _) _ (inv .1) _ _ (inv .0) (inv .2)))
+    let inv = c .before .before .loop .inv in (
+      (search needs, search needs),
+      (search leg-sound, stands-small _ (lent-entries _) _ (inv .1) _ _ (inv .0) (inv .2)),
+    )
 
 keep-requires-2 : tie.Need-keep-requires-2 Inv-loop μ-loop
 keep-requires-2 c κs = (search spots-room, search runs-room)
 
 loop-again : tie.Need-loop-again Inv-loop μ-loop
-loop-again c = (search needs, search needs, search stands-next, search ran-next, search needs,
-    search needs, search needs, search needs, search needs, search needs)
+loop-again c = (
+  search needs,
+  search needs,
+  search stands-next,
+  search ran-next,
+  search needs,
+  search needs,
+  search needs,
+  search needs,
+  search needs,
+  search needs,
+)
 
 returns : tie.Need-returns Inv-loop μ-loop
 returns c = (search ran-last, search stands-last)

@@ -29,7 +29,7 @@ cross-requires : tie.Need-cross-requires Inv-loop μ-loop
 cross-requires c κs =
     let s = c .before .before .before in
     let m : (c .before .before .loop .i + 1) % s .args .n < s .args .n =
-        mod-lt (c .before .before .loop .i + 1) (omega arith) in
+    mod-lt (c .before .before .loop .i + 1) (omega arith) in
     (s .pre .0, (omega (arith, c .next .ensures), omega (arith, c .next .ensures)))
 
 plus-requires : tie.Need-plus-requires Inv-loop μ-loop

@@ -7,19 +7,26 @@ use Rattle.steps.proofs.course.move_by.Statement.{statement}
 use Rattle.steps.proofs.course.move_by.Tie as tie
 
 mul-half-up : tie.Need-mul-half-up
-mul-half-up c = record
-    { fits = omega (arith,
-    product-small (c .args .distance) (c .args .size) (c .pre .0) (c .pre .1)) }
+mul-half-up c = record {
+  fits = omega (
+    arith,
+    product-small (c .args .distance) (c .args .size) (c .pre .0) (c .pre .1),
+  );
+}
 
 half-up-requires : tie.Need-half-up-requires
-half-up-requires c κs =
-    (omega (arith, product-small (c .args .distance) (c .args .size) (c .pre .0) (c .pre .1)),
-    (search needs, search needs))
+half-up-requires c κs = (
+  omega (arith, product-small (c .args .distance) (c .args .size) (c .pre .0) (c .pre .1)),
+  (search needs, search needs),
+)
 
 of-size-requires : tie.Need-of-size-requires
 of-size-requires c κs =
-    omega (arith, product-small (c .before .args .distance) (c .before .args .size)
-    (c .before .pre .0) (c .before .pre .1))
+    omega (
+      arith,
+      product-small (c .before .args .distance) (c .before .args .size)
+          (c .before .pre .0) (c .before .pre .1),
+    )
 
 returns : tie.Need-returns
 returns c = search by-negative

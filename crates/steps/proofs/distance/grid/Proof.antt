@@ -21,13 +21,19 @@ returns-4 c = search ranges depth 8
 
 mul-half-up : tie.Need-mul-half-up
 mul-half-up c = let s = c .before .before .before .before in
-    omega (arith, product-most (s .args .distance) (s .args .factor) 20000000 10020010 (omega arith)
-    (omega arith))
+    omega (
+      arith,
+      product-most (s .args .distance) (s .args .factor) 20000000 10020010 (omega arith)
+          (omega arith),
+    )
 
 half-up-requires : tie.Need-half-up-requires
 half-up-requires c κs = let s = c .before .before .before .before in
-    omega (arith, product-most (s .args .distance) (s .args .factor) 20000000 10020010 (omega arith)
-    (omega arith))
+    omega (
+      arith,
+      product-most (s .args .distance) (s .args .factor) 20000000 10020010 (omega arith)
+          (omega arith),
+    )
 
 returns-5 : tie.Need-returns-5
 unfolding grid

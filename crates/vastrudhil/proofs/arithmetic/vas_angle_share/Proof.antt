@@ -13,7 +13,7 @@ returns c =
     let s = c .before .before .before in
     amount-as _ _ _ _ (c .amount .ensures)
     (c .before .before .angle-share .ensures ∙ ap
-        (λ (z : ℤ). angleShareStep z (s .args .j) (s .args .n)) (toZ-ofZ (s .fits .w)))
+    (λ (z : ℤ). angleShareStep z (s .args .j) (s .args .n)) (toZ-ofZ (s .fits .w)))
 
 pub vas-angle-share-spec : {M : Type 1} → statement M
 vas-angle-share-spec = tie.close (tie.spec (λ c κs. search needs) (λ c κs. search needs) returns)

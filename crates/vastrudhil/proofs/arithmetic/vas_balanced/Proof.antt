@@ -13,7 +13,7 @@ returns c =
     let s = c .before .before .before in
     count-as _ _ _ _ (c .count .ensures)
     (c .before .before .balanced .ensures ∙ ap (λ (z : ℤ). balancedStep (s .args .azimuth) z)
-        (toZ-ofZ (s .fits .share)))
+    (toZ-ofZ (s .fits .share)))
 
 pub vas-balanced-spec : {M : Type 1} → statement M
 vas-balanced-spec = tie.close (tie.spec (λ c κs. search needs) (λ c κs. search needs) returns)

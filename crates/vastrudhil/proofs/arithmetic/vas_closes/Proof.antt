@@ -14,8 +14,8 @@ returns c =
     let s = c .before .before .before in
     verdict-as _ _ _ _ (c .verdict .ensures)
     (c .before .before .closes .ensures ∙ ap
-        (λ (z : ℤ). closureTest z (back (s .args .east)) (s .args .s)) (toZ-ofZ (s .fits .north))
-        ∙ ap (λ (z : ℤ). closureTest (s .args .north) z (s .args .s)) (toZ-ofZ (s .fits .east)))
+    (λ (z : ℤ). closureTest z (back (s .args .east)) (s .args .s)) (toZ-ofZ (s .fits .north))
+    ∙ ap (λ (z : ℤ). closureTest (s .args .north) z (s .args .s)) (toZ-ofZ (s .fits .east)))
 
 pub vas-closes-spec : {M : Type 1} → statement M
 vas-closes-spec = tie.close (tie.spec (λ c κs. search needs) (λ c κs. search needs) returns)

@@ -13,7 +13,7 @@ returns c =
     let s = c .before .before .before in
     verdict-as _ _ _ _ (c .verdict .ensures)
     (c .before .before .closes-angles .ensures ∙ ap (λ (z : ℤ). misclosureTest z (s .args .n))
-        (toZ-ofZ (s .fits .w)))
+    (toZ-ofZ (s .fits .w)))
 
 pub vas-closes-angles-spec : {M : Type 1} → statement M
 vas-closes-angles-spec = tie.close (tie.spec (λ c κs. search needs) (λ c κs. search needs) returns)

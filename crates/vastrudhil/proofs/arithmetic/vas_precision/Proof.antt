@@ -14,8 +14,8 @@ returns c =
     let s = c .before .before .before in
     count-as _ _ _ _ (c .count .ensures)
     (c .before .before .precision .ensures .1 ∙ ap
-        (λ (z : ℤ). precisionStep z (back (s .args .east)) (s .args .s)) (toZ-ofZ (s .fits .north))
-        ∙ ap (λ (z : ℤ). precisionStep (s .args .north) z (s .args .s)) (toZ-ofZ (s .fits .east)))
+    (λ (z : ℤ). precisionStep z (back (s .args .east)) (s .args .s)) (toZ-ofZ (s .fits .north))
+    ∙ ap (λ (z : ℤ). precisionStep (s .args .north) z (s .args .s)) (toZ-ofZ (s .fits .east)))
 
 pub vas-precision-spec : {M : Type 1} → statement M
 vas-precision-spec = tie.close (tie.spec (λ c κs. search needs) (λ c κs. search needs) returns)

@@ -13,7 +13,7 @@ returns c =
     let s = c .before .before .before in
     count-as _ _ _ _ (c .count .ensures)
     (c .before .before .sea-level .ensures ∙ ap (λ (z : ℤ). seaLevelStep z)
-        (toZ-ofZ (s .fits .elevation)))
+    (toZ-ofZ (s .fits .elevation)))
 
 pub vas-sea-level-spec : {M : Type 1} → statement M
 vas-sea-level-spec = tie.close (tie.spec (λ c κs. search needs) (λ c κs. search needs) returns)

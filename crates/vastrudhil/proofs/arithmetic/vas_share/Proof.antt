@@ -13,7 +13,7 @@ returns c =
     let s = c .before .before .before in
     amount-as _ _ _ _ (c .amount .ensures)
     (c .before .before .share .ensures ∙ ap
-        (λ (z : ℤ). shareStep z (s .args .part) (s .args .whole)) (toZ-ofZ (s .fits .closure)))
+    (λ (z : ℤ). shareStep z (s .args .part) (s .args .whole)) (toZ-ofZ (s .fits .closure)))
 
 pub vas-share-spec : {M : Type 1} → statement M
 vas-share-spec = tie.close (tie.spec (λ c κs. search needs) (λ c κs. search needs) returns)
