@@ -14,6 +14,7 @@ use borrow.Rule.Slice.PartMut.{putMid}
 use Rattle.records.specs.declared.Record.{Record}
 use Rattle.writer.specs.declared.Written.{Written}
 use Rattle.records.specs.Record.{bytesOfRecord}
+use Rattle.records.proofs.Bodies.{length-given, room-given}
 use Rattle.writer.specs.Write.{Wrote, answerOf, leftOf, toldWritten}
 use Rattle.writer.specs.declared.Written.the-variants.{Refused, Until}
 
@@ -33,14 +34,9 @@ module _ (given found : Record) (e : given ≡ found) (out : List ℕ) (place : 
       (bytesOfRecord given ++ drop (place + length (bytesOfRecord given)) out)
   back part p =
       let a : length (drop place out) ≤ length out - place = omega (arith, length-drop place out) in
-      rw (
-        e,
-        p,
-        take-all (length out - place) (drop place out) a,
-        drop-of-length-le (drop place out) a,
-        append-nil,
-        drop-drop,
-      )
+      let rest = take-all (length out - place) (drop place out) a in
+      let none = drop-of-length-le (drop place out) a in
+      rw (e, p, rest, none, append-nil, drop-drop)
 
 -- ---- the ways out; n is the length of the record's body
 module _ (out : List ℕ) (place : ℕ) (good : Bool) (bytes : List ℕ) where
@@ -72,4 +68,4 @@ module _ (out : List ℕ) (place : ℕ) (good : Bool) (bytes : List ℕ) where
         owed (rw (le-leb _ _ fits, ← is, h) (ap Until (omega arith)))
         (rw (le-leb _ _ fits, ← is, h) p)
 
-pub ruleset wrote = (past, short, bad, done)
+pub ruleset wrote = (past, short, bad, done, length-given, room-given)

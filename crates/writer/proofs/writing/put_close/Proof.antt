@@ -6,22 +6,6 @@ use Rattle.writer.proofs.writing.Stores.{close-stored}
 use Rattle.writer.proofs.writing.put_close.Statement.{statement}
 use Rattle.writer.proofs.writing.put_close.Tie as tie
 
-put-four-requires : tie.Need-put-four-requires
-unfolding bodyOf kindFields table
-put-four-requires c κs = search needs
-
-put-four-requires-2 : tie.Need-put-four-requires-2
-unfolding bodyOf kindFields table
-put-four-requires-2 c κs = search needs
-
-put-four-requires-3 : tie.Need-put-four-requires-3
-unfolding bodyOf kindFields table
-put-four-requires-3 c κs = search needs
-
-put-four-requires-4 : tie.Need-put-four-requires-4
-unfolding bodyOf kindFields table
-put-four-requires-4 c κs = search needs
-
 returns : tie.Need-returns
 unfolding bodyOf kindFields table
 returns c =
@@ -36,9 +20,8 @@ returns c =
     (s .pre)
 
 pub put-close-spec : {M : Type 1} → statement M
+unfolding bodyOf kindFields table
 put-close-spec =
     tie.close
-    (tie.spec (λ c κs. search needs)
-    put-four-requires put-four-requires-2 put-four-requires-3 put-four-requires-4
-    (λ c. search needs)
-    returns)
+    (tie.spec (λ c κs. search needs) (λ c κs. search needs) (λ c κs. search needs)
+    (λ c κs. search needs) (λ c κs. search needs) (λ c. search needs) returns)

@@ -6,14 +6,6 @@ use Rattle.writer.proofs.writing.Stores.{leg-stored}
 use Rattle.writer.proofs.writing.put_leg.Statement.{statement}
 use Rattle.writer.proofs.writing.put_leg.Tie as tie
 
-put-four-requires : tie.Need-put-four-requires
-unfolding bodyOf kindFields table
-put-four-requires c κs = search needs
-
-put-four-requires-2 : tie.Need-put-four-requires-2
-unfolding bodyOf kindFields table
-put-four-requires-2 c κs = search needs
-
 returns : tie.Need-returns
 unfolding bodyOf kindFields table
 returns c =
@@ -25,8 +17,8 @@ returns c =
     (f .put-kind .ensures) (s .pre)
 
 pub put-leg-spec : {M : Type 1} → statement M
+unfolding bodyOf kindFields table
 put-leg-spec =
     tie.close
-    (tie.spec (λ c κs. search needs)
-    put-four-requires put-four-requires-2 (λ c. search needs)
-    returns)
+    (tie.spec (λ c κs. search needs) (λ c κs. search needs) (λ c κs. search needs)
+    (λ c. search needs) returns)

@@ -6,14 +6,6 @@ use Rattle.writer.proofs.writing.Stores.{project-stored}
 use Rattle.writer.proofs.writing.put_project.Statement.{statement}
 use Rattle.writer.proofs.writing.put_project.Tie as tie
 
-put-two-requires : tie.Need-put-two-requires
-unfolding bodyOf kindFields table
-put-two-requires c κs = search needs
-
-put-two-requires-2 : tie.Need-put-two-requires-2
-unfolding bodyOf kindFields table
-put-two-requires-2 c κs = search needs
-
 returns : tie.Need-returns
 unfolding bodyOf kindFields table
 returns c =
@@ -26,8 +18,8 @@ returns c =
     (f .put-kind .ensures) (g .raw .ensures) (s .pre .0)
 
 pub put-project-spec : {M : Type 1} → statement M
+unfolding bodyOf kindFields table
 put-project-spec =
     tie.close
-    (tie.spec (λ c κs. search needs) (λ c κs. search needs)
-    put-two-requires put-two-requires-2 (λ c. search needs)
-    returns)
+    (tie.spec (λ c κs. search needs) (λ c κs. search needs) (λ c κs. search needs)
+    (λ c κs. search needs) (λ c. search needs) returns)

@@ -6,14 +6,6 @@ use Rattle.writer.proofs.writing.Stores.{row-stored}
 use Rattle.writer.proofs.writing.put_row.Statement.{statement}
 use Rattle.writer.proofs.writing.put_row.Tie as tie
 
-put-two-requires : tie.Need-put-two-requires
-unfolding bodyOf kindFields table
-put-two-requires c κs = search needs
-
-put-four-requires : tie.Need-put-four-requires
-unfolding bodyOf kindFields table
-put-four-requires c κs = search needs
-
 returns : tie.Need-returns
 unfolding bodyOf kindFields table
 returns c =
@@ -25,8 +17,8 @@ returns c =
     (f .put-kind .ensures) (s .pre)
 
 pub put-row-spec : {M : Type 1} → statement M
+unfolding bodyOf kindFields table
 put-row-spec =
     tie.close
-    (tie.spec (λ c κs. search needs)
-    put-two-requires put-four-requires (λ c. search needs)
-    returns)
+    (tie.spec (λ c κs. search needs) (λ c κs. search needs) (λ c κs. search needs)
+    (λ c. search needs) returns)

@@ -6,18 +6,6 @@ use Rattle.writer.proofs.writing.Stores.{start-stored}
 use Rattle.writer.proofs.writing.put_start.Statement.{statement}
 use Rattle.writer.proofs.writing.put_start.Tie as tie
 
-put-four-requires : tie.Need-put-four-requires
-unfolding bodyOf kindFields table
-put-four-requires c κs = search needs
-
-put-four-requires-2 : tie.Need-put-four-requires-2
-unfolding bodyOf kindFields table
-put-four-requires-2 c κs = search needs
-
-put-four-requires-3 : tie.Need-put-four-requires-3
-unfolding bodyOf kindFields table
-put-four-requires-3 c κs = search needs
-
 returns : tie.Need-returns
 unfolding bodyOf kindFields table
 returns c =
@@ -30,8 +18,8 @@ returns c =
     (f .put-four .ensures) (g .put-kind .ensures) (s .pre)
 
 pub put-start-spec : {M : Type 1} → statement M
+unfolding bodyOf kindFields table
 put-start-spec =
     tie.close
-    (tie.spec (λ c κs. search needs)
-    put-four-requires put-four-requires-2 put-four-requires-3 (λ c. search needs)
-    returns)
+    (tie.spec (λ c κs. search needs) (λ c κs. search needs) (λ c κs. search needs)
+    (λ c κs. search needs) (λ c. search needs) returns)
