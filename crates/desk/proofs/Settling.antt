@@ -147,8 +147,8 @@ module _ (n : ℕ) (spots : List ℤ) (runs : List ℕ) (c : Closure) where
     pub east-fits : (z : ℤ) → z ≡ wordAt spots (2 * k + 1) → natAbs z < 2 ^ 40
     east-fits z e = rw e (s .east k h)
 
-    pub part-fits : getD runs k 0 ≤ c .distance
-    part-fits = s .part k h
+    pub part-fits : (r : ℕ) → r ≡ getD runs k 0 → r ≤ c .distance
+    part-fits r e = rw e (s .part k h)
 
   pub put-length : (k : ℕ) (l : List ℤ) → length (putTo spots runs c k l) ≡ length l
   unfolding putTo
@@ -159,13 +159,15 @@ module _ (n : ℕ) (spots : List ℤ) (runs : List ℕ) (c : Closure) where
       → k ≤ n → 130 ≤ length l → 2 * k + 1 < length m
   station-room k l m s g h i = rw g (omega (arith, put-length k l, s .few))
 
-  pub put-next : (k : ℕ) (l m r : List ℤ) (x y : ℤ) → m ≡ putTo spots runs c k l
-      → x ≡ wordAt spots (2 * k) → y ≡ wordAt spots (2 * k + 1)
-      → r ≡ set (set m (2 * k) (x -ℤ share (c .north .v) (getD runs k 0) (c .distance))) (2 * k + 1)
-      (y -ℤ share (c .east .v) (getD runs k 0) (c .distance))
+  pub put-next : (k : ℕ) (l m r : List ℤ) (s : Sums) → m ≡ putTo spots runs c k l
+      → s .north .v ≡ wordAt spots (2 * k) → s .east .v ≡ wordAt spots (2 * k + 1)
+      → s .run ≡ getD runs k 0
+      → r ≡ set
+      (set m (2 * k) (s .north .v -ℤ share (c .north .v) (s .run) (c .distance)))
+      (2 * k + 1) (s .east .v -ℤ share (c .east .v) (s .run) (c .distance))
       → r ≡ putTo spots runs c (k + 1) l
   unfolding putTo
-  put-next k l m r x y g h i f = f ∙ rw (g, h, i, add-one k)
+  put-next k l m r s g n e t f = f ∙ rw (g, n, e, t, add-one k)
 
   pub put-last : (k : ℕ) (l m : List ℤ) → k ≤ n + 1 → n < k → m ≡ putTo spots runs c k l
       → m ≡ putTo spots runs c (n + 1) l

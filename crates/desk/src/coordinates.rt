@@ -6,7 +6,7 @@ use tape::Point;
 use whole::Whole;
 ghost use mathlib.Core.Path.{_≡_};
 ghost use Prim.Native.Nat.{_+_, _*_, _≤_, _<_};
-ghost use lib.ListN.{length, set};
+ghost use lib.ListN.{length, getD, set};
 ghost use lib.IntN.{natAbs, _-ℤ_};
 ghost use Rattle.steps.specs.Closure.{mostTested, mostClosure, mostSum, closes, precision};
 ghost use Rattle.steps.specs.Share.{share};
@@ -69,19 +69,34 @@ pub fn word(words: &[i64], at: usize) -> Whole
     Whole { v: words[at] }
 }
 
-// Station k, whose sums are given: northing, then easting, each less its share.
-fn put_station(words: &mut [i64], k: usize, north: Whole, east: Whole, run: u64, c: Closure)
+// What is summed at station k, read back from where the run along the legs kept it.
+fn kept(spots: &[i64], runs: &[u64], k: usize) -> Sums
+    requires { ⌜ (2 * k + 1 < length (now spots)) × (k < length (now runs)) ⌝ }
+    ensures north { λ r. ⌜ r .north .v ≡ wordAt (now (spots .entry)) (2 * k) ⌝ }
+    ensures east { λ r. ⌜ r .east .v ≡ wordAt (now (spots .entry)) (2 * k + 1) ⌝ }
+    ensures run { λ r. ⌜ r .run ≡ getD (now (runs .entry)) k 0 ⌝ }
+{
+    Sums {
+        north: word(spots, 2 * k),
+        east: word(spots, 2 * k + 1),
+        run: runs[k],
+    }
+}
+
+// Station k, at which s is summed: northing, then easting, each less its share.
+fn put_station(words: &mut [i64], k: usize, s: Sums, c: Closure)
     requires { ⌜ 2 * k + 1 < length (now words) ⌝ }
-    requires { ⌜ (natAbs (north .v) < sumBound) × (natAbs (east .v) < sumBound) ⌝ }
+    requires { ⌜ (natAbs (s .north .v) < sumBound) × (natAbs (s .east .v) < sumBound) ⌝ }
     requires { ⌜ Near c ⌝ }
-    requires { ⌜ run ≤ c .distance ⌝ }
+    requires { ⌜ s .run ≤ c .distance ⌝ }
     ensures { λ r. ⌜ now (words .exit)
         ≡ set
-        (set (now (words .entry)) (2 * k) (north .v -ℤ share (c .north .v) run (c .distance)))
-        (2 * k + 1) (east .v -ℤ share (c .east .v) run (c .distance)) ⌝ }
+        (set (now (words .entry)) (2 * k)
+        (s .north .v -ℤ share (c .north .v) (s .run) (c .distance)))
+        (2 * k + 1) (s .east .v -ℤ share (c .east .v) (s .run) (c .distance)) ⌝ }
 {
-    put(words, 2 * k, adjust(north, c.north, run, c.distance));
-    put(words, 2 * k + 1, adjust(east, c.east, run, c.distance));
+    put(words, 2 * k, adjust(s.north, c.north, s.run, c.distance));
+    put(words, 2 * k + 1, adjust(s.east, c.east, s.run, c.distance));
 }
 
 // Stations 0 to n from what was kept of them, the closures and the whole distance known.
@@ -94,14 +109,7 @@ pub fn put_all(n: usize, spots: &[i64], runs: &[u64], c: Closure, words: &mut [i
 {
     let mut k: usize = 0;
     while k <= n {
-        put_station(
-            words,
-            k,
-            word(spots, 2 * k),
-            word(spots, 2 * k + 1),
-            runs[k],
-            c,
-        );
+        put_station(words, k, kept(spots, runs, k), c);
         k = k + 1;
     }
 }

@@ -9,7 +9,7 @@ use tape::Point;
 use whole::Whole;
 ghost use mathlib.Core.Path.{_≡_};
 ghost use Prim.Native.Nat.{_+_, _*_, _≤_, _<_};
-ghost use lib.ListN.{length, getD, set};
+ghost use lib.ListN.{length, set};
 ghost use Rattle.answer.specs.Limit.{mostLegs, leastDistance, mostDistance};
 ghost use Rattle.steps.specs.Course.{north, east, toldMove};
 ghost use Rattle.steps.specs.Distance.{leastCombined, mostCombined, grid};
@@ -43,23 +43,14 @@ fn added(s: Sums, long: u64, moves: Moves) -> Sums
     }
 }
 
-// Leg k on, by the sines of a lent table.
-fn advance(
-    table: &[u32; ENTRIES],
-    factor: u32,
-    azimuths: &[u32],
-    distances: &[u32],
-    k: usize,
-    s: Sums,
-) -> Sums
-    requires { ⌜ (k < length (now azimuths)) × (k < length (now distances)) ⌝ }
-    requires { ⌜ LegSound factor (getD (now distances) k 0) (getD (now azimuths) k 0) ⌝ }
+// One leg on, by the sines of a lent table.
+fn advance(table: &[u32; ENTRIES], factor: u32, distance: u32, azimuth: u32, s: Sums) -> Sums
+    requires { ⌜ LegSound factor distance azimuth ⌝ }
     requires { ⌜ RoomForLeg s ⌝ }
-    ensures { λ r. ⌜ Advanced (entryIn (now (table .entry))) s factor
-        (getD (now (distances .entry)) k 0) (getD (now (azimuths .entry)) k 0) r ⌝ }
+    ensures { λ r. ⌜ Advanced (entryIn (now (table .entry))) s factor distance azimuth r ⌝ }
 {
-    let long = grid_distance(distances[k], factor);
-    added(s, long, course::moves_in(table, long, azimuths[k]))
+    let long = grid_distance(distance, factor);
+    added(s, long, course::moves_in(table, long, azimuth))
 }
 
 // What is summed before the first leg.
@@ -109,7 +100,7 @@ pub fn run_all(
     keep(spots, runs, 0, s);
     let mut k: usize = 0;
     while k < b.legs {
-        s = advance(table, b.factor, azimuths, distances, k, s);
+        s = advance(table, b.factor, distances[k], azimuths[k], s);
         k = k + 1;
         keep(spots, runs, k, s);
     }

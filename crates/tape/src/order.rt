@@ -39,7 +39,7 @@ ghost use Prim.Native.Nat.{_+_, _-_, _<_, _≤_};
 ghost use lib.Dec.{eqb, ltb};
 ghost use lib.ListN.{length, getD};
 ghost use Rattle.answer.specs.Limit.{mostLegs};
-ghost use Rattle.answer.specs.Refusal.{cutShort, outOfOrder};
+ghost use Rattle.answer.specs.Refusal.{cutShort, outOfOrder, badRows};
 ghost use Rattle.records.specs.Record.{rowKind, projectKind, startKind, closeKind, bodyOf};
 ghost use Rattle.tape.specs.Tape.{mostRows, atRows, afterProject, lineBegun, closed};
 ghost use Rattle.tape.specs.Tape.{isLeg, readingOf};
@@ -89,25 +89,25 @@ fn more(tape: &[u8], at: usize, kind: u8, end: usize) -> bool
     tape[at] == kind
 }
 
-// What refuses one more of a kind, for which there is no room: the tape is cut short, or else
-// `number` says that it is one too many. 0 for another record.
-fn beyond(tape: &[u8], at: usize, kind: u8, count: u32, limit: u32, number: u32) -> u32
+// The refusal of a row after the last one that there is room for: the tape is cut short if fewer
+// than 600 rows were read, and the 601st is one too many. 0 for another record or the end.
+fn row_beyond(tape: &[u8], at: usize, rows: u32) -> u32
     ensures { λ r. ⌜ r ≡ cond (ltb at (length (now (tape .entry))))
-        (cond (eqb (getD (now (tape .entry)) at 0) kind)
-        (cond (ltb count limit) cutShort number)
+        (cond (eqb (getD (now (tape .entry)) at 0) rowKind)
+        (cond (ltb rows mostRows) cutShort badRows)
         0)
         0 ⌝ }
 {
     if tape.len() <= at {
         return 0;
     }
-    if tape[at] != kind {
+    if tape[at] != ROW {
         return 0;
     }
-    if count < limit {
+    if rows < MOST_ROWS {
         return CUT_SHORT;
     }
-    number
+    BAD_ROWS
 }
 
 // What refuses another record where only one kind may stand: at the end of the tape it is cut
@@ -347,7 +347,7 @@ fn rows(tape: &[u8]) -> Passed
         c = past_row(tape, c);
     }
     let last = c.st;
-    let number = beyond(tape, c.at, ROW, last.rows, MOST_ROWS, BAD_ROWS);
+    let number = row_beyond(tape, c.at, last.rows);
     Passed { number, cursor: c }
 }
 

@@ -21,14 +21,8 @@ loop-holds : tie.Need-loop-holds Inv-loop μ-loop
 unfolding putTo
 loop-holds c = (search needs, refl, refl)
 
-word-requires : tie.Need-word-requires Inv-loop μ-loop
-word-requires c κs = search (spot-room, needs)
-
-word-requires-2 : tie.Need-word-requires-2 Inv-loop μ-loop
-word-requires-2 c κs = search (spot-room, needs)
-
-shared-slice-read-put-station : tie.Need-shared-slice-read-put-station Inv-loop μ-loop
-shared-slice-read-put-station c = search run-room
+kept-requires : tie.Need-kept-requires Inv-loop μ-loop
+kept-requires c κs = (search spot-room, search run-room)
 
 put-station-requires : tie.Need-put-station-requires Inv-loop μ-loop
 put-station-requires c κs =
@@ -44,9 +38,6 @@ pub put-all-spec : {M : Type 1} → statement M
 put-all-spec =
     tie.close
     (tie.spec Inv-loop μ-loop
-    loop-holds (λ c. search needs)
-    word-requires (λ c. search needs) (λ c. search needs)
-    word-requires-2 (λ c. search needs)
-    shared-slice-read-put-station put-station-requires (λ c. search needs) (λ c. search needs)
+    loop-holds kept-requires put-station-requires (λ c. search needs) (λ c. search needs)
     loop-again (λ c. search needs)
     returns)

@@ -14,6 +14,4 @@ returns c = search advanced
 pub advance-spec : {M : Type 1} → statement M
 advance-spec =
     tie.close
-    (tie.spec (λ c. search needs) (λ c. search needs) (λ c κs. search needs) (λ c. search needs)
-    (λ c. search needs) (λ c κs. search needs)
-    added-requires returns)
+    (tie.spec (λ c κs. search needs) (λ c κs. search needs) added-requires returns)

@@ -39,10 +39,8 @@ loop-holds c = (
 
 advance-requires : tie.Need-advance-requires Inv-loop μ-loop
 advance-requires c κs =
-    let inv = c .before .before .loop .inv in (
-      (search needs, search needs),
-      (search leg-sound, stands-small _ (lent-entries _) _ (inv .1) _ _ (inv .0) (inv .2)),
-    )
+    let inv = c .before .before .before .before .loop .inv in
+    (search leg-sound, stands-small _ (lent-entries _) _ (inv .1) _ _ (inv .0) (inv .2))
 
 keep-requires-2 : tie.Need-keep-requires-2 Inv-loop μ-loop
 keep-requires-2 c κs = (search spots-room, search runs-room)
@@ -68,7 +66,8 @@ pub run-all-spec : {M : Type 1} → statement M
 run-all-spec =
     tie.close
     (tie.spec Inv-loop μ-loop (λ c κs. search needs) (λ c κs. search needs)
-    loop-holds advance-requires (λ c. search needs)
+    loop-holds (λ c. search needs) (λ c. search needs) (λ c. search needs) (λ c. search needs)
+    advance-requires (λ c. search needs)
     keep-requires-2 (λ c. search needs)
     loop-again (λ c. search needs) (λ c. search needs)
     returns)
