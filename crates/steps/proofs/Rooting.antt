@@ -1,21 +1,22 @@
 -- The whole root and the precision number: the definitions have the properties that name them, and
 -- nothing else has.
 use mathlib.Core.Path.{_≡_, refl, sym, _∙_}
-use mathlib.Core.Bool.{true, false, cond}
+use mathlib.Core.Bool.{Bool, true, false, cond, _&&_, and-eq-true-iff}
 use Prim.Native.Nat.{ℕ, zero, suc, _+_, _-_, _*_, _/_, _^_, _≤_, _<_}
 use native.Mathlib.Nat.{lt-of-le-of-lt, le-div-iff-mul-le, div-lt-iff-lt-mul, div-le-self}
-use native.Mathlib.Nat.{le-antisymm, pow-succ'}
+use native.Mathlib.Nat.{le-antisymm, le-trans, pow-succ'}
 use native.Mathlib.Decide.{decLe, ℕ-discrete}
 use native.Mathlib.Omega.{arith}
-use borrow.Author.Tests.{le-leb, lt-leb, eq-eqb, ne-eqb}
-use lib.Dec.{leb, lit<}
+use borrow.Author.Tests.{le-leb, lt-leb, leb-true, eq-eqb, ne-eqb}
+use lib.Dec.{T, leb, leb→le, lit<}
 use lib.IntN.{ℤ, natAbs}
 use mir.Syntax.{w64}
 use mir.Val.{Fits}
 use Rattle.steps.proofs.Laws.{product-most, square-most, below-root}
-use Rattle.answer.specs.Told.{toldCount}
+use Rattle.answer.specs.Told.{toldCount, inside}
 use Rattle.answer.specs.declared.Count.the-variants.{Is, OutOfRange}
-use Rattle.steps.specs.Closure.{squares, closes, Precision, PrecisionTold, root, precision}
+use Rattle.steps.specs.Closure.{mostSum, squares, closes, root, precision}
+use Rattle.steps.specs.Closure.{Precision, PrecisionTold}
 use Rattle.steps.specs.Root.{WholeRoot, worked}
 use Rattle.steps.proofs.root.ByDigits.{worked-is}
 
@@ -102,34 +103,64 @@ pub none-told : (north east : ℤ) (s : ℕ) → PrecisionTold north east s (tol
 unfolding toldCount
 none-told north east s = record { largest = λ z. absurd (omega (arith, z)) }
 
-module _ (north east : ℤ) (n e both s : ℕ) (f : n ≡ natAbs north) (g : e ≡ natAbs east)
-    (b : both ≡ n * n + e * e) where
-  both-is : both ≡ squares north east
-  both-is = b ∙ rw (f, g)
+-- the squares of two closures, and their sum
+module _ (z : ℤ) (n : ℕ) (f : n ≡ natAbs z) (h : natAbs z ≤ 1200000000) where
+  square-size : n * n ≤ 1440000000000000000
+  square-size = product-most n n 1200000000 1200000000 (omega arith) (omega arith)
 
-  pub hundred-fits : n ≤ 26000 → e ≤ 26000 → Fits w64 (100 * both)
-  hundred-fits h k = record {
-    fits = omega (arith, b, product-most n n 26000 26000 h h, product-most e e 26000 26000 k k);
-  }
+  pub size-fits : Fits w64 (n * n)
+  size-fits = record { fits = omega (arith, square-size) }
+
+pub sizes-fit : (y z : ℤ) (n e : ℕ) → n ≡ natAbs y → natAbs y ≤ 1200000000 → e ≡ natAbs z
+    → natAbs z ≤ 1200000000 → Fits w64 (n * n + e * e)
+sizes-fit y z n e f h g k =
+    record { fits = omega (arith, square-size y n f h, square-size z e g k) }
+
+-- closures that stand: r is the test of the ranges, which came out true
+module _ (north east : ℤ) (s most : ℕ) (r : Bool) (t : r ≡ true)
+    (is : r ≡ (leb (natAbs north) most && leb (natAbs east) most && inside 1 mostSum s)) where
+  sizes : (natAbs north ≤ most) × (natAbs east ≤ most) × (s ≤ 1300000000)
+  unfolding inside
+  sizes =
+      let a = and-eq-true-iff _ (inside 1 mostSum s) .0 (sym is ∙ t) in
+      let b = and-eq-true-iff (leb (natAbs north) most) _ .0 (a .0) in
+      let d = and-eq-true-iff (leb 1 s) (leb s mostSum) .0 (a .1) in
+      (leb-true _ _ (b .0), leb-true _ _ (b .1), leb-true _ _ (d .1))
+
+  pub north-most : (m : ℕ) → T (leb most m) → natAbs north ≤ m
+  north-most m h = le-trans (sizes .0) (leb→le most m h)
+
+  pub east-most : (m : ℕ) → T (leb most m) → natAbs east ≤ m
+  east-most m h = le-trans (sizes .1) (leb→le most m h)
+
+  pub sum-most : s ≤ 1300000000
+  sum-most = sizes .2
+
+module _ (north east : ℤ) (both s : ℕ) (b : both ≡ squares north east) where
+  pub hundred-fits : natAbs north ≤ 26000 → natAbs east ≤ 26000 → Fits w64 (100 * both)
+  hundred-fits h k =
+      let n = product-most (natAbs north) (natAbs north) 26000 26000 h h in
+      let e = product-most (natAbs east) (natAbs east) 26000 26000 k k in
+      record { fits = omega arith }
 
   pub no-closure : both ≡ 0 → 0 ≡ precision north east s
   unfolding precision
-  no-closure z = rw (eq-eqb (squares north east) 0 (sym both-is ∙ z))
+  no-closure z = rw (eq-eqb (squares north east) 0 (sym b ∙ z))
 
   pub some-closure : (r : ℕ) → WholeRoot (s * s / (100 * both)) r → (both ≡ 0 → ⊥) → s ≤ 1300000000
       → r ≡ precision north east s
   unfolding precision
   some-closure r h z k =
-      rw (ne-eqb (squares north east) 0 (λ w. z (both-is ∙ w)))
+      rw (ne-eqb (squares north east) 0 (λ w. z (b ∙ w)))
       (root-unique (s * s / (100 * both)) r (root 32 (s * s / (100 * squares north east))) h
-      (rw both-is (root-is 32 (s * s / (100 * squares north east))
+      (rw b (root-is 32 (s * s / (100 * squares north east))
       (small (squares north east) s (omega arith)))))
 
   -- the rule, of what is told: none of no closures, and else the root of the quotient
   pub zero-told : both ≡ 0 → PrecisionTold north east s (toldCount (Is 0))
   unfolding toldCount
   zero-told z =
-      let w : squares north east ≡ 0 = sym both-is ∙ z in
+      let w : squares north east ≡ 0 = sym b ∙ z in
       let none : Precision north east s 0 =
       record { none = λ v. refl; fits = λ n. absurd (n w); largest = λ n. absurd (n w) } in
       record { largest = λ u. none }
@@ -138,19 +169,19 @@ module _ (north east : ℤ) (n e both s : ℕ) (f : n ≡ natAbs north) (g : e �
       → PrecisionTold north east s (toldCount (Is r))
   unfolding toldCount
   largest-told r h z =
-      let l = largest-root (squares north east) s r (omega (arith, both-is, z)) (rw both-is at h) in
+      let l = largest-root (squares north east) s r (omega (arith, b, z)) (rw b at h) in
       let all : Precision north east s r =
-      record { none = λ w. absurd (z (both-is ∙ w)); fits = λ n. l .0; largest = λ n. l .1 } in
+      record { none = λ w. absurd (z (b ∙ w)); fits = λ n. l .0; largest = λ n. l .1 } in
       record { largest = λ u. all }
 
   -- the test, divided by 50,000 squared
   pub closes-yes : both ≤ s * s / 2500000000 → closes north east s ≡ true
   unfolding closes
-  closes-yes h = le-leb (50000 * 50000 * squares north east) (s * s) (omega (arith, both-is))
+  closes-yes h = le-leb (50000 * 50000 * squares north east) (s * s) (omega (arith, b))
 
   pub closes-no : s * s / 2500000000 < both → closes north east s ≡ false
   unfolding closes
-  closes-no h = lt-leb (50000 * 50000 * squares north east) (s * s) (omega (arith, both-is))
+  closes-no h = lt-leb (50000 * 50000 * squares north east) (s * s) (omega (arith, b))
 
 -- so the precision number is the root that the digit-by-digit method finds
 pub precision-worked : (north east : ℤ) (s : ℕ) → (squares north east ≡ 0 → ⊥) → s ≤ 1300000000
@@ -159,5 +190,4 @@ precision-worked north east s z h =
     let q = squares north east in
     let x = s * s / (100 * q) in
     let r = worked-is 9 x (few-pairs q s z h) in
-    sym (some-closure north east (natAbs north) (natAbs east) q s refl refl refl
-    (worked 9 x .root) r z h)
+    sym (some-closure north east q s refl (worked 9 x .root) r z h)

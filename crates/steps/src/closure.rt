@@ -5,9 +5,13 @@ use answer::Count;
 use answer::Verdict;
 use whole::Whole;
 ghost use mathlib.Core.Path.{_≡_};
-ghost use Prim.Native.Nat.{_+_, _*_, _<_, _≤_};
-ghost use Rattle.answer.specs.Told.{toldCount, toldVerdict};
-ghost use Rattle.steps.specs.Closure.{mostTested, closureTest, precisionStep, PrecisionTold};
+ghost use mathlib.Core.Bool.{_&&_};
+ghost use Prim.Native.Nat.{_≤_};
+ghost use lib.Dec.{leb};
+ghost use lib.IntN.{natAbs};
+ghost use Rattle.answer.specs.Told.{toldCount, toldVerdict, inside};
+ghost use Rattle.steps.specs.Closure.{mostSum, mostTested, squares as Closure·squares};
+ghost use Rattle.steps.specs.Closure.{closureTest, precisionStep, PrecisionTold};
 
 // "S of 1..1,300,000,000": the most that the sum of grid distances comes to.
 pub const MOST_SUM: u64 = 1_300_000_000;
@@ -29,11 +33,33 @@ const PARTS_SQUARED: u64 = CLOSURE_PARTS * CLOSURE_PARTS;
 // is 10 squared.
 const HUNDREDTH_SQUARED: u64 = 100;
 
-// The sum of two squares.
-fn squares(n: u64, e: u64) -> u64
-    requires { ⌜ (n ≤ mostTested) × (e ≤ mostTested) ⌝ }
-    ensures { λ r. ⌜ r ≡ n * n + e * e ⌝ }
+// Whether both closures are of size up to the most, and s is of 1..1,300,000,000.
+fn closures_stand(north: Whole, east: Whole, s: u64, most: u64) -> bool
+    ensures { λ r. ⌜ r ≡ (leb (natAbs (north .v)) most && leb (natAbs (east .v)) most
+        && inside 1 mostSum s) ⌝ }
 {
+    if most < north.size() {
+        return false;
+    }
+    if most < east.size() {
+        return false;
+    }
+    if s < 1 {
+        return false;
+    }
+    if MOST_SUM < s {
+        return false;
+    }
+    true
+}
+
+// The sum of the closures' squares.
+fn squares(north: Whole, east: Whole) -> u64
+    requires { ⌜ (natAbs (north .v) ≤ mostTested) × (natAbs (east .v) ≤ mostTested) ⌝ }
+    ensures { λ r. ⌜ r ≡ Closure·squares (north .v) (east .v) ⌝ }
+{
+    let n = north.size();
+    let e = east.size();
     n * n + e * e
 }
 
@@ -42,24 +68,13 @@ fn squares(n: u64, e: u64) -> u64
 pub fn closes(north: Whole, east: Whole, s: u64) -> Verdict
     ensures { λ r. ⌜ toldVerdict r ≡ closureTest (north .v) (east .v) s ⌝ }
 {
-    let n = north.size();
-    let e = east.size();
-    if MOST_TESTED < n {
-        return Verdict::OutOfRange;
+    if closures_stand(north, east, s, MOST_TESTED) {
+        if squares(north, east) <= s * s / PARTS_SQUARED {
+            return Verdict::Passes;
+        }
+        return Verdict::Fails;
     }
-    if MOST_TESTED < e {
-        return Verdict::OutOfRange;
-    }
-    if s < 1 {
-        return Verdict::OutOfRange;
-    }
-    if MOST_SUM < s {
-        return Verdict::OutOfRange;
-    }
-    if squares(n, e) <= s * s / PARTS_SQUARED {
-        return Verdict::Passes;
-    }
-    Verdict::Fails
+    Verdict::OutOfRange
 }
 
 // The precision number P: the closure is 1 part in P of the distance. The promise states the rule
@@ -68,23 +83,12 @@ pub fn precision(north: Whole, east: Whole, s: u64) -> Count
     ensures rule { λ r. ⌜ PrecisionTold (north .v) (east .v) s (toldCount r) ⌝ }
     ensures is { λ r. ⌜ toldCount r ≡ precisionStep (north .v) (east .v) s ⌝ }
 {
-    let n = north.size();
-    let e = east.size();
-    if MOST_CLOSURE < n {
-        return Count::OutOfRange;
+    if closures_stand(north, east, s, MOST_CLOSURE) {
+        let both = squares(north, east);
+        if both == 0 {
+            return Count::Is(0);
+        }
+        return Count::Is(root::whole_root(s * s / (HUNDREDTH_SQUARED * both)));
     }
-    if MOST_CLOSURE < e {
-        return Count::OutOfRange;
-    }
-    if s < 1 {
-        return Count::OutOfRange;
-    }
-    if MOST_SUM < s {
-        return Count::OutOfRange;
-    }
-    let both = squares(n, e);
-    if both == 0 {
-        return Count::Is(0);
-    }
-    Count::Is(root::whole_root(s * s / (HUNDREDTH_SQUARED * both)))
+    Count::OutOfRange
 }
