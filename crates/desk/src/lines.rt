@@ -1,6 +1,7 @@
 // The lines of the sheet, each put after the one before.
 use crate::Figures;
 use crate::STATION_WORDS;
+use text::Quantity;
 use whole::Whole;
 ghost use mathlib.Core.Path.{_≡_};
 ghost use mathlib.Core.List.{_++_};
@@ -11,7 +12,7 @@ ghost use Rattle.answer.specs.Limit.{mostLegs};
 ghost use Rattle.text.specs.Text.{ascii, decimal, plain, amount};
 ghost use Rattle.text.specs.Room.{Room, Put};
 ghost use Rattle.desk.specs.Sheet.{closures, closeLine, lineOf, stationLines};
-ghost use Rattle.desk.specs.Sheet.{areaLine, textOf};
+ghost use Rattle.desk.specs.Sheet.{areaLine, textOf, footDecimals};
 ghost use Rattle.desk.specs.Answer.{mostStations, stationWords, toldTraverse};
 ghost use Rattle.desk.specs.declared.Answer.the-variants.{Adjusted};
 
@@ -29,24 +30,32 @@ const AREA_DECIMALS: usize = 4;
 
 const AREA_UNITS: u64 = 10_000;
 
-// A name, and an amount after it.
-fn put_named(
-    out: &mut [u8],
-    at: usize,
-    name: &[u8],
-    plus: &[u8],
-    z: Whole,
-    d: usize,
-    unit: u64,
-) -> usize
-    requires { ⌜ unit ≡ 10 ^ d ⌝ }
-    requires { ⌜ Room (now out) at (now name ++ amount (now plus) d (z .v)) ⌝ }
+// A name, and a quantity after it.
+fn put_named(out: &mut [u8], at: usize, name: &[u8], plus: &[u8], q: Quantity) -> usize
+    requires { ⌜ q .unit ≡ 10 ^ (q .decimals) ⌝ }
+    requires { ⌜ Room (now out) at
+        (now name ++ amount (now plus) (q .decimals) (q .amount .v)) ⌝ }
     ensures { λ r. ⌜ Put (now (out .entry)) at
-        (now (name .entry) ++ amount (now (plus .entry)) d (z .v))
+        (now (name .entry) ++ amount (now (plus .entry)) (q .decimals) (q .amount .v))
         (now (out .exit)) r ⌝ }
 {
     let i = text::put(out, at, name);
-    text::put_amount(out, i, plus, z, d, unit)
+    text::put_amount(out, i, plus, q)
+}
+
+// A name, and a length in feet after it.
+fn put_feet(out: &mut [u8], at: usize, name: &[u8], plus: &[u8], z: Whole) -> usize
+    requires { ⌜ Room (now out) at (now name ++ amount (now plus) footDecimals (z .v)) ⌝ }
+    ensures { λ r. ⌜ Put (now (out .entry)) at
+        (now (name .entry) ++ amount (now (plus .entry)) footDecimals (z .v))
+        (now (out .exit)) r ⌝ }
+{
+    let feet = Quantity {
+        amount: z,
+        decimals: FOOT_DECIMALS,
+        unit: HUNDREDTHS,
+    };
+    put_named(out, at, name, plus, feet)
 }
 
 fn put_closures(out: &mut [u8], w: Whole, north: Whole, east: Whole) -> usize
@@ -54,9 +63,14 @@ fn put_closures(out: &mut [u8], w: Whole, north: Whole, east: Whole) -> usize
     ensures { λ r. ⌜ Put (now (out .entry)) 0 (closures (w .v) (north .v) (east .v))
         (now (out .exit)) r ⌝ }
 {
-    let i = put_named(out, 0, b"CLOSE W=", b"+", w, SECOND_DECIMALS, TENTHS);
-    let j = put_named(out, i, b" N=", b"+", north, FOOT_DECIMALS, HUNDREDTHS);
-    put_named(out, j, b" E=", b"+", east, FOOT_DECIMALS, HUNDREDTHS)
+    let seconds = Quantity {
+        amount: w,
+        decimals: SECOND_DECIMALS,
+        unit: TENTHS,
+    };
+    let i = put_named(out, 0, b"CLOSE W=", b"+", seconds);
+    let j = put_feet(out, i, b" N=", b"+", north);
+    put_feet(out, j, b" E=", b"+", east)
 }
 
 // A count between a word and the line feed.
@@ -87,8 +101,8 @@ fn put_coordinates(out: &mut [u8], at: usize, north: Whole, east: Whole) -> usiz
         ((ascii " " ++ plain 2 (north .v)) ++ (ascii " " ++ plain 2 (east .v)) ++ ascii "\n")
         (now (out .exit)) r ⌝ }
 {
-    let i = put_named(out, at, b" ", b"", north, FOOT_DECIMALS, HUNDREDTHS);
-    let j = put_named(out, i, b" ", b"", east, FOOT_DECIMALS, HUNDREDTHS);
+    let i = put_feet(out, at, b" ", b"", north);
+    let j = put_feet(out, i, b" ", b"", east);
     text::put(out, j, b"\n")
 }
 
@@ -132,7 +146,12 @@ fn put_area(out: &mut [u8], at: usize, area: Whole, looped: bool) -> usize
     ensures { λ r. ⌜ Put (now (out .entry)) at (areaLine (area .v) looped) (now (out .exit)) r ⌝ }
 {
     if looped {
-        let i = put_named(out, at, b"AREA2 ", b"", area, AREA_DECIMALS, AREA_UNITS);
+        let square_feet = Quantity {
+            amount: area,
+            decimals: AREA_DECIMALS,
+            unit: AREA_UNITS,
+        };
+        let i = put_named(out, at, b"AREA2 ", b"", square_feet);
         return text::put(out, i, b"\n");
     }
     at

@@ -11,6 +11,13 @@ ghost use Rattle.text.specs.Room.{Room, Put};
 
 mod pairs;
 
+// An amount in units of its last decimal, `unit` of which make a whole one.
+pub struct Quantity {
+    pub amount: Whole,
+    pub decimals: usize,
+    pub unit: u64,
+}
+
 // A text, byte by byte.
 pub fn put(out: &mut [u8], at: usize, text: &[u8]) -> usize
     requires { ⌜ Room (now out) at (now text) ⌝ }
@@ -144,14 +151,14 @@ fn put_sign(out: &mut [u8], at: usize, plus: &[u8], z: Whole) -> usize
     put(out, at, plus)
 }
 
-// An amount of units of which `unit` make a whole one, with d decimals, after its sign; `plus`
-// stands before one that is not negative.
-pub fn put_amount(out: &mut [u8], at: usize, plus: &[u8], z: Whole, d: usize, unit: u64) -> usize
-    requires { ⌜ unit ≡ 10 ^ d ⌝ }
-    requires { ⌜ Room (now out) at (amount (now plus) d (z .v)) ⌝ }
-    ensures { λ r. ⌜ Put (now (out .entry)) at (amount (now (plus .entry)) d (z .v))
-        (now (out .exit)) r ⌝ }
+// A quantity with its decimals, after its sign; `plus` stands before one that is not negative.
+pub fn put_amount(out: &mut [u8], at: usize, plus: &[u8], q: Quantity) -> usize
+    requires { ⌜ q .unit ≡ 10 ^ (q .decimals) ⌝ }
+    requires { ⌜ Room (now out) at (amount (now plus) (q .decimals) (q .amount .v)) ⌝ }
+    ensures { λ r. ⌜ Put (now (out .entry)) at
+        (amount (now (plus .entry)) (q .decimals) (q .amount .v)) (now (out .exit)) r ⌝ }
 {
+    let z = q.amount;
     let i = put_sign(out, at, plus, z);
-    put_pointed(out, i, z.size(), d, unit)
+    put_pointed(out, i, z.size(), q.decimals, q.unit)
 }

@@ -9,13 +9,13 @@ put-named-requires : tie.Need-put-named-requires
 unfolding closures
 put-named-requires c κs = (search needs, search room-one)
 
-put-named-requires-2 : tie.Need-put-named-requires-2
+put-feet-requires : tie.Need-put-feet-requires
 unfolding closures
-put-named-requires-2 c κs = (search needs, search room-two)
+put-feet-requires c κs = search room-two
 
-put-named-requires-3 : tie.Need-put-named-requires-3
+put-feet-requires-2 : tie.Need-put-feet-requires-2
 unfolding closures
-put-named-requires-3 c κs = (search needs, search room-three)
+put-feet-requires-2 c κs = search room-three
 
 returns : tie.Need-returns
 unfolding closures
@@ -26,6 +26,6 @@ put-closures-spec =
     tie.close
     (tie.spec (λ c. search needs) (λ c. search needs)
     put-named-requires (λ c. search needs) (λ c. search needs)
-    put-named-requires-2 (λ c. search needs) (λ c. search needs)
-    put-named-requires-3 (λ c. search needs)
+    put-feet-requires (λ c. search needs) (λ c. search needs)
+    put-feet-requires-2 (λ c. search needs)
     returns)

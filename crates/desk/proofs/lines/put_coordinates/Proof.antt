@@ -5,11 +5,11 @@ use Rattle.text.proofs.Putting.{room-one, room-two, room-three, then}
 use Rattle.desk.proofs.lines.put_coordinates.Statement.{statement}
 use Rattle.desk.proofs.lines.put_coordinates.Tie as tie
 
-put-named-requires : tie.Need-put-named-requires
-put-named-requires c κs = (search needs, search room-one)
+put-feet-requires : tie.Need-put-feet-requires
+put-feet-requires c κs = search room-one
 
-put-named-requires-2 : tie.Need-put-named-requires-2
-put-named-requires-2 c κs = (search needs, search room-two)
+put-feet-requires-2 : tie.Need-put-feet-requires-2
+put-feet-requires-2 c κs = search room-two
 
 put-requires : tie.Need-put-requires
 put-requires c κs = search room-three
@@ -21,7 +21,7 @@ pub put-coordinates-spec : {M : Type 1} → statement M
 put-coordinates-spec =
     tie.close
     (tie.spec (λ c. search needs) (λ c. search needs)
-    put-named-requires (λ c. search needs) (λ c. search needs)
-    put-named-requires-2 (λ c. search needs)
+    put-feet-requires (λ c. search needs) (λ c. search needs)
+    put-feet-requires-2 (λ c. search needs)
     put-requires (λ c. search needs)
     returns)
