@@ -11,7 +11,7 @@ use Rattle.whole.proofs.Branch.{by-test}
 use Rattle.text.specs.Text.{ascii, digits, digitCount, decimal, pointed, sign, amount, signed}
 use Rattle.text.specs.Text.{plain}
 use Rattle.desk.specs.Answer.{ToldTraverse}
-use Rattle.desk.specs.Sheet.{closures, closeLine, stationLine, lineOf, stationLines}
+use Rattle.desk.specs.Sheet.{closuresText, closeLine, stationLine, lineOf, stationLines}
 use Rattle.desk.proofs.ShownLines.{linesBefore}
 use Rattle.corner.specs.Printed.{feeds}
 
@@ -76,7 +76,7 @@ next-line n xs ys a b =
 
 -- ---- the lines of the sheet
 close-line : (w n e : ℤ) (p : ℕ) → Ends (closeLine w n e p) 0
-unfolding closeLine closures feeds
+unfolding closeLine closuresText feeds
 close-line w n e p =
     let first = ascii "CLOSE W=" ++ signed 1 w in
     let north = ascii " N=" ++ signed 2 n in

@@ -1,11 +1,14 @@
--- Demand 3, of what the sheet step prints: where its number is 0, the line of every station stands
--- in the bytes, and what is read from it stands within the bound. It is true because the words
--- printed are those of the traverse, and what is printed reads back as the word.
+-- Demand 3, of what the sheet step writes and of what the program prints: where the tape is
+-- accepted, the line of every station stands in the bytes, and what is read from it stands within
+-- the bound. It is true because the words printed are those of the traverse, and what is printed
+-- reads back as the word.
 use Prim.Native.Nat.{ℕ, _≤_}
 use native.Mathlib.Omega.{arith}
 use mathlib.Core.Path.{_≡_, sym, _∙_, ap}
 use mathlib.Core.List.{List, _++_, append-assoc}
-use lib.ListN.{length, take, getD}
+use borrow.Author.Tests.{le-ltb, eq-eqb}
+use lib.ListN.{length, take, drop, getD}
+use lib.Seq.{take-append-seam}
 use lib.IntN.{ℤ, pos}
 use Rattle.minutes.specs.Entry.{entry}
 use Rattle.steps.specs.Course.{Axis}
@@ -16,7 +19,7 @@ use Rattle.text.proofs.ReadBack.{plain-back}
 use Rattle.desk.specs.declared.Page.{Page}
 use Rattle.desk.specs.Angles.{Balanced, balancedTraverse}
 use Rattle.desk.specs.Sheet.{footDecimals, stationLine, lineOf, textOf, ownWords, answered}
-use Rattle.desk.specs.Sheet.{sheetWords, toldSheet, Showed}
+use Rattle.desk.specs.Sheet.{sheetWords, toldSheet, Showed, over, printedOf, printed, printedIn}
 use Rattle.desk.specs.Traverse.{along, wordIndex}
 use Rattle.desk.proofs.Accepted.{Accepted, accepted, accepted-legs, accepted-sound}
 use Rattle.desk.proofs.Accepted.{station, first-station, last-station}
@@ -104,3 +107,20 @@ module _ (tape out left : List ℕ) (r : Page) (s : Showed entry tape out left r
   -- and so in all the lent bytes
   pub printed-corner : PrintedWithin tape left k
   printed-corner = rw (showed-text entry tape out left r s accepts) (longer tape _ _ k in-text)
+
+-- ---- r and left are what the promise of `print` allows for the tape and the lent bytes, of a tape
+-- that the desk accepts
+module _ (tape out left : List ℕ) (r : ℕ) (room : 4096 ≤ length out)
+    (long : r ≡ length (printedIn tape (length out)))
+    (bytes : left ≡ over (printedIn tape (length out)) out)
+    (accepts : answered entry tape .number ≡ 0) (k : ℕ) (h : k ≤ traverseOf tape .legs) where
+  text-printed : printedIn tape (length out) ≡ textOf (answered entry tape) (sheetWords entry tape)
+  unfolding printed printedOf
+  text-printed = rw (le-ltb (length out) 4096 room, eq-eqb (answered entry tape .number) 0 accepts)
+
+  -- in what the program prints, which is as many bytes as are answered
+  pub print-corner : PrintedWithin tape (take r left) k
+  print-corner =
+      let text = textOf (answered entry tape) (sheetWords entry tape) in
+      rw (long, bytes, text-printed, take-append-seam text (drop (length text) out))
+      (text-corner tape accepts k h)

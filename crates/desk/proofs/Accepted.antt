@@ -2,7 +2,7 @@
 -- passed, since every refusal has a number above 0. So what is told and what the words hold then
 -- follow from the number alone: small numbers, every station, the fixed points at both ends, and
 -- nothing changed after.
-use Prim.Native.Nat.{ℕ, _+_, _*_, _^_, _≤_, _<_}
+use Prim.Native.Nat.{ℕ, suc, _+_, _*_, _^_, _≤_, _<_}
 use native.Mathlib.Omega.{arith}
 use mathlib.Core.Path.{_≡_, refl}
 use mathlib.Core.Bool.{true}
@@ -10,7 +10,7 @@ use mathlib.Core.List.{List}
 use borrow.Author.Tests.{le-ltb, ltb-false}
 use lib.Dec.{ltb}
 use lib.ListN.{length, getD}
-use lib.IntN.{ℤ, pos, natAbs}
+use lib.IntN.{ℤ, pos, natAbs, _-ℤ_}
 use Rattle.sines.proofs.Own.{Entries}
 use Rattle.steps.specs.Azimuth.{halfCircle, closesAngles}
 use Rattle.steps.specs.Course.{Axis, north, east}
@@ -27,10 +27,12 @@ use Rattle.desk.specs.Answer.{northClosure, eastClosure, distanceRun, cl
 use Rattle.desk.specs.Answer.{adjustedTraverse, adjustedWords, afterFirst, firstFor}
 use Rattle.desk.specs.Answer.{traversedBy, traversedWordsBy}
 use Rattle.desk.specs.Inside.{Sound}
-use Rattle.desk.specs.Line.{closure, adjusted}
+use Rattle.whole.specs.Sum.{sumTo}
+use Rattle.desk.specs.Line.{closure, shareAt, adjusted}
 use Rattle.desk.specs.Traverse.{along, line, wordIndex, withStations}
 use Rattle.desk.proofs.Balancing.{misclosure-most, sound-of}
-use Rattle.desk.proofs.Settling.{run-small, closes-near}
+use Rattle.desk.proofs.Compass.{legs-add-up}
+use Rattle.desk.proofs.Settling.{far-run, run-small, closes-near}
 use Rattle.desk.proofs.Stations.{place-small, area-most}
 use Rattle.desk.proofs.Stepping.{tape-ready}
 use Rattle.desk.proofs.Words.{word-at, words-later, first-word, last-word}
@@ -158,6 +160,12 @@ module _ (e : ℕ → ℤ) (tape : List ℕ) (words : List ℤ)
       → getD (traversedWordsBy e tape words) (wordIndex axis k) (pos 0) ≡ adjusted (line e axis b) k
   station axis k h = rw accepted-words
       (word-at e b words axis (b .legs + 1) k (omega arith) (omega (arith, sound .few, a .wide)))
+
+  -- what the legs are given of a closure adds up to it
+  pub accepted-legs-add-up : (axis : Axis)
+      → sumTo (λ (k : ℕ). shareAt (line e axis b) (suc k) -ℤ shareAt (line e axis b) k) (b .legs)
+      ≡ closure (line e axis b)
+  accepted-legs-add-up axis = legs-add-up (line e axis b) (far-run b sound)
 
   pub word-small : Entries e → (axis : Axis) (k : ℕ) → k ≤ b .legs
       → natAbs (getD (traversedWordsBy e tape words) (wordIndex axis k) (pos 0)) < 2 ^ 40

@@ -14,13 +14,14 @@ use Rattle.desk.specs.Traverse.{wordIndex}
 use Rattle.desk.proofs.Accepted.{Sized, accepted, accepted-legs, accepted-sized, word-small}
 use Rattle.text.specs.Text.{ascii}
 use Rattle.text.proofs.Lengths.{decimal-most, amount-most}
-use Rattle.desk.specs.Sheet.{closures, closeLine, stationLine, lineOf, stationLines, areaLine}
+use Rattle.desk.specs.Sheet.{closuresText, closeLine, stationLine, lineOf, stationLines}
+use Rattle.desk.specs.Sheet.{areaLine}
 use Rattle.desk.specs.Sheet.{textOf, ownWords, answered, sheetWords}
 
 -- ---- lines
 close-most : (w n e : ℤ) (p : ℕ) → natAbs w < 10 ^ 19 → natAbs n < 10 ^ 19 → natAbs e < 10 ^ 19
     → p < 10 ^ 19 → length (closeLine w n e p) ≤ 120
-unfolding closeLine closures
+unfolding closeLine closuresText
 close-most w n e p f g h i =
     simp length-append
     (omega (

@@ -11,7 +11,7 @@ use Rattle.whole.specs.Sum.{sumTo}
 use Rattle.minutes.specs.Entry.{entry}
 use Rattle.minutes.specs.Exact.{exactSine, exactQuarter, bySeries, series, weight, unity, straight}
 use Rattle.minutes.specs.Exact.{pi, factorial}
-use Rattle.minutes.specs.Quadrant.{around, turned, folded}
+use Rattle.minutes.specs.Quadrant.{around, signedBy, folded}
 use Rattle.sines.specs.Sine.{between, quarterBy, sineBy}
 use Rattle.steps.specs.Area.{cross, nextStation, doubledTo}
 use Rattle.steps.specs.Azimuth.{turn, misclosure, closesAngles, balanced}
@@ -64,7 +64,7 @@ answer = record {
 
 pub printed-told : traversed (tapeOf records) 130 ≡ answer
 unfolding nearest sumTo exactSine exactQuarter bySeries series weight unity straight pi factorial
-    around turned folded entry between quarterBy sineBy cross nextStation doubledTo turn
+    around signedBy folded entry between quarterBy sineBy cross nextStation doubledTo turn
     misclosure closesAngles balanced closes root precision move sineAlong seaLevel combine
     grid share num bytes meant written table kindFields bodyOf numbersOf goodOf bytesOf
     mayCome roomOf rowNext projectNext afterOf takeOf judge stepOf walk readingOf recordsFrom
@@ -81,7 +81,7 @@ stations = pos 5000000 ∷ pos 200000000 ∷ pos 5100000 ∷ pos 200000000 ∷ p
 pub printed-words : (z : ℤ)
     → traversedWords (tapeOf records) (replicate 130 z) ≡ stations ++ replicate 120 z
 unfolding nearest sumTo exactSine exactQuarter bySeries series weight unity straight pi factorial
-    around turned folded entry between quarterBy sineBy turn misclosure closesAngles balanced
+    around signedBy folded entry between quarterBy sineBy turn misclosure closesAngles balanced
     closes move sineAlong seaLevel combine grid share num bytes meant written table kindFields
     bodyOf numbersOf goodOf bytesOf mayCome roomOf rowNext projectNext afterOf takeOf judge
     stepOf walk readingOf recordsFrom tapeOf pick placeOf angleOf distanceOf isRow scaleOf

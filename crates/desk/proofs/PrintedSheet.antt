@@ -14,7 +14,8 @@ use Rattle.desk.specs.Answer.{ToldTraverse}
 use Rattle.desk.proofs.Printed.{records, answer, stations, printed-told, printed-words}
 use Rattle.text.specs.Text.{ascii, digits, digitCountIn, decimal, pointed, sign, amount}
 use Rattle.text.proofs.Digits.{decimal-short}
-use Rattle.desk.specs.Sheet.{closures, closeLine, stationLine, lineOf, stationLines, areaLine}
+use Rattle.desk.specs.Sheet.{closuresText, closeLine, stationLine, lineOf, stationLines}
+use Rattle.desk.specs.Sheet.{areaLine}
 use Rattle.desk.specs.Sheet.{textOf, printedOf, printed}
 use Rattle.desk.specs.Sheet.{sheetWords}
 
@@ -33,7 +34,8 @@ short : (n : ℕ) → n < 10 ^ 10 → decimal n ≡ digits (digitCountIn 9 n) n
 short n h = decimal-short 9 n h
 
 figures : printedOf answer (stations ++ replicate 120 (pos 0)) ≡ sheet
-unfolding digits digitCountIn pointed sign amount closures closeLine stationLine lineOf stationLines
+unfolding digits digitCountIn pointed sign amount closuresText closeLine stationLine lineOf
+    stationLines
     areaLine textOf printedOf
 figures =
     rw (

@@ -41,9 +41,9 @@ misclosureOf f = misclosure (carried (turnsOf f) (f .line .legs)) (f .closing .g
 abbrev pub zeros : List ℕ
 zeros = replicate mostLegs 0
 
--- a traverse whose angles are balanced: how many angles share W, the misclosure W, the balanced
--- azimuth and the measured distance of each leg, the combined factor, the two fixed points, and the
--- place of the close
+-- a traverse whose angles are balanced: how many legs it has, how many angles share W, the
+-- misclosure W, the balanced azimuth and the measured distance of each leg, the combined factor,
+-- the two fixed points, and the place of the close
 pub record Balanced : Type 0 where
   pub legs : ℕ
   pub angles : ℕ

@@ -29,14 +29,14 @@ areaDecimals = 4
 
 -- ---- "Every line ends with one line feed; nothing is padded."
 -- "First line: W in seconds, closures in feet, always signed (zero is +), precision number."
-unfoldable pub closures : ℤ → ℤ → ℤ → List ℕ
-closures w n e =
+unfoldable pub closuresText : ℤ → ℤ → ℤ → List ℕ
+closuresText w n e =
     (ascii "CLOSE W=" ++ signed secondDecimals w)
     ++ (ascii " N=" ++ signed footDecimals n)
     ++ (ascii " E=" ++ signed footDecimals e)
 
 unfoldable pub closeLine : ℤ → ℤ → ℤ → ℕ → List ℕ
-closeLine w n e p = closures w n e ++ (ascii " P=" ++ decimal p ++ ascii "\n")
+closeLine w n e p = closuresText w n e ++ (ascii " P=" ++ decimal p ++ ascii "\n")
 
 -- "Then station, northing, easting, a minus sign only when negative"
 unfoldable pub stationLine : ℕ → ℤ → ℤ → List ℕ

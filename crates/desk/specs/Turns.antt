@@ -18,8 +18,8 @@ pub record Turns : Type 0 where
   pub ahead : ℕ
 
 -- "Each next leg: the azimuth before, plus 180 degrees, plus its angle. The closing azimuth
--- likewise with the closing angle": the angle between leg k and the next is the one after those
--- ahead and the k before it
+-- likewise with the closing angle": between leg k and the next stands angle number k + ahead, both
+-- counted from 0
 unfoldable pub carried : Turns → ℕ → ℕ
 carried t zero = t .first
 carried t (suc k) = onward (carried t k) (getD (t .angles) (k + t .ahead) 0)

@@ -30,10 +30,10 @@ pub const STATION_WORDS: usize = 2 * MOST_STATIONS;
 // "under 4,096 bytes for the sheet" there is no room. specs/Sheet.antt has the same name.
 pub const SHEET_BYTES: usize = 4_096;
 
-// A traverse whose angles are balanced, but for its legs: how many angles share W, which the second
-// step takes from here, the misclosure W, the combined factor, the two fixed points, and the place
-// of the close. The balanced azimuth and the measured distance of each leg stand in two lists
-// beside it. No latitude, departure or coordinate of a station stands in it.
+// A traverse whose angles are balanced, but for its legs: how many legs it has, how many angles
+// share W, the misclosure W, the combined factor, the two fixed points, and the place of the close.
+// The balanced azimuth and the measured distance of each leg stand in two lists beside it. No
+// latitude, departure or coordinate of a station stands in it.
 pub struct Frame {
     pub legs: usize,
     pub angles: usize,

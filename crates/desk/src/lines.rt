@@ -11,7 +11,7 @@ ghost use lib.IntN.{pos};
 ghost use Rattle.answer.specs.Limit.{mostLegs};
 ghost use Rattle.text.specs.Text.{ascii, decimal, plain, amount};
 ghost use Rattle.text.specs.Room.{Room, Put};
-ghost use Rattle.desk.specs.Sheet.{closures, closeLine, lineOf, stationLines};
+ghost use Rattle.desk.specs.Sheet.{closuresText, closeLine, lineOf, stationLines};
 ghost use Rattle.desk.specs.Sheet.{areaLine, textOf, footDecimals};
 ghost use Rattle.desk.specs.Answer.{mostStations, stationWords, toldTraverse};
 ghost use Rattle.desk.specs.declared.Answer.the-variants.{Adjusted};
@@ -59,8 +59,8 @@ fn put_feet(out: &mut [u8], at: usize, name: &[u8], plus: &[u8], z: Whole) -> us
 }
 
 fn put_closures(out: &mut [u8], w: Whole, north: Whole, east: Whole) -> usize
-    requires { ⌜ Room (now out) 0 (closures (w .v) (north .v) (east .v)) ⌝ }
-    ensures { λ r. ⌜ Put (now (out .entry)) 0 (closures (w .v) (north .v) (east .v))
+    requires { ⌜ Room (now out) 0 (closuresText (w .v) (north .v) (east .v)) ⌝ }
+    ensures { λ r. ⌜ Put (now (out .entry)) 0 (closuresText (w .v) (north .v) (east .v))
         (now (out .exit)) r ⌝ }
 {
     let seconds = Quantity {

@@ -10,7 +10,7 @@ use lib.IntN.{ℤ, pos, negsuc, natAbs}
 use Rattle.whole.specs.Nearest.{nearest}
 use Rattle.minutes.specs.Exact.{exactSine, exactQuarter, bySeries, series, weight, unity}
 use Rattle.minutes.specs.Exact.{straight, pi, factorial}
-use Rattle.minutes.specs.Quadrant.{around, turned, folded}
+use Rattle.minutes.specs.Quadrant.{around, signedBy, folded}
 use Rattle.minutes.specs.Entry.{Table, entry}
 use Rattle.minutes.proofs.Every.{both, every, at}
 use Rattle.minutes.proofs.Listed.{minutes}
@@ -29,7 +29,8 @@ right : ℕ → ℕ → Bool
 right k x = is (entry k) x && leb x 1000000000
 
 all-right : T (every right 0 minutes)
-unfolding minutes right is entry nearest exactSine around turned folded exactQuarter bySeries series
+unfolding minutes right is entry nearest exactSine around signedBy folded exactQuarter bySeries
+    series
     weight unity straight pi factorial
 all-right = tt
 

@@ -5,7 +5,7 @@ use mathlib.Core.List.{List, [], _∷_}
 use Prim.Native.Nat.{ℕ, zero, suc, _-_, _*_, _/_, _^_, _≤_}
 use lib.Dec.{leb}
 use lib.IntN.{ℤ, pos, natAbs, _-ℤ_, _*ℤ_}
-use Rattle.minutes.specs.Quadrant.{halfCircle, quarterCircle, around, ahead}
+use Rattle.minutes.specs.Quadrant.{halfCircle, quarterCircle, around, quarterAhead}
 
 -- "Radians use pi = 3.14159265358979323846": `pi` over 10 ^ 20
 unfoldable pub pi : ℕ
@@ -56,7 +56,7 @@ unfoldable pub exactSine : ℕ → ℤ
 exactSine a = around exactQuarter a
 
 abbrev pub exactCosine : ℕ → ℤ
-exactCosine a = exactSine (ahead a)
+exactCosine a = exactSine (quarterAhead a)
 
 -- 1 in units of the ninth decimal: "the nine-decimal sine" of 90 degrees, and no sine is above it
 abbrev pub nineDecimals : ℕ

@@ -34,13 +34,13 @@ folded a =
     (cond (leb a threeQuarters) (a - halfCircle) (circle - a)))
 
 -- the sine is negative past 180 degrees
-unfoldable pub turned : Bool → ℤ → ℤ
-turned past z = cond past (negℤ z) z
+unfoldable pub signedBy : Bool → ℤ → ℤ
+signedBy past z = cond past (negℤ z) z
 
 -- a sine known in the first quadrant, carried round the circle
 unfoldable pub around : (ℕ → ℤ) → ℕ → ℤ
-around quarter a = turned (ltb halfCircle a) (quarter (folded a))
+around quarter a = signedBy (ltb halfCircle a) (quarter (folded a))
 
 -- "the cosine is the sine of the angle plus 90 degrees"
-abbrev pub ahead : ℕ → ℕ
-ahead a = (a + quarterCircle) % circle
+abbrev pub quarterAhead : ℕ → ℕ
+quarterAhead a = (a + quarterCircle) % circle

@@ -10,9 +10,9 @@ use lib.IntN.{ℤ, pos, negsuc}
 pub data Width : Type 0 where
   two four : Width
 
-abbrev pub size : Width → ℕ
-size two = 2
-size four = 4
+abbrev pub byteCount : Width → ℕ
+byteCount two = 2
+byteCount four = 4
 
 -- the number that the bytes from place k of l on spell
 unfoldable pub num : Width → List ℕ → ℕ → ℕ
@@ -31,16 +31,16 @@ pub data Coding : Type 0 where
   unsigned twosComplement : Coding
 
 -- how many numbers a width has
-abbrev pub room : Width → ℕ
-room two = 65536
-room four = 4294967296
+abbrev pub capacity : Width → ℕ
+capacity two = 65536
+capacity four = 4294967296
 
 -- what a number read is meant to be: in two's complement the upper half counts down from -1
 unfoldable pub meant : Coding → Width → ℕ → ℤ
 meant unsigned w n = pos n
-meant twosComplement w n = cond (ltb n (room w / 2)) (pos n) (negsuc (room w - 1 - n))
+meant twosComplement w n = cond (ltb n (capacity w / 2)) (pos n) (negsuc (capacity w - 1 - n))
 
 -- the number that is written for one that is meant
 unfoldable pub written : Width → ℤ → ℕ
 written w (pos n) = n
-written w (negsuc n) = room w - 1 - n
+written w (negsuc n) = capacity w - 1 - n

@@ -12,7 +12,7 @@ use Rattle.minutes.specs.Entry.{lastMinute}
 use Rattle.minutes.specs.Quadrant.{circle}
 use Rattle.records.specs.declared.Record.{Record}
 use Rattle.records.specs.declared.Record.the-variants as kinds
-use Rattle.records.specs.Bytes.{Width, two, four, size, num, bytes}
+use Rattle.records.specs.Bytes.{Width, two, four, byteCount, num, bytes}
 use Rattle.records.specs.Bytes.{Coding, unsigned, twosComplement, meant, written}
 
 -- ---- "One byte of kind": the five kinds
@@ -38,15 +38,15 @@ pub record Field : Type 0 where
   pub low : ℤ
   pub high : ℤ
 
-abbrev plain : Width → ℕ → ℕ → Field
-plain w low high = record { width = w; coding = unsigned; low = pos low; high = pos high }
+abbrev unsignedField : Width → ℕ → ℕ → Field
+unsignedField w low high = record { width = w; coding = unsigned; low = pos low; high = pos high }
 
 -- "minute of latitude (2 bytes) 0..5,400", and "mean latitude in minutes (2) 0..5,400"
 abbrev minute : Field
-minute = plain two 0 lastMinute
+minute = unsignedField two 0 lastMinute
 
 abbrev factor : Field
-factor = plain four leastFactor mostFactor
+factor = unsignedField four leastFactor mostFactor
 
 abbrev elevation : Field
 elevation =
@@ -58,14 +58,14 @@ elevation =
     }
 
 abbrev coordinate : Field
-coordinate = plain four 0 mostCoordinate
+coordinate = unsignedField four 0 mostCoordinate
 
 -- "angle right (4) 0..12,959,999", and an azimuth to a mark: below the circle
 abbrev angle : Field
-angle = plain four 0 (circle - 1)
+angle = unsignedField four 0 (circle - 1)
 
 abbrev distance : Field
-distance = plain four leastDistance mostDistance
+distance = unsignedField four leastDistance mostDistance
 
 -- ---- the table of kinds
 pub record Kind : Type 0 where
@@ -96,12 +96,12 @@ kindFields k = look table k
 -- its bytes
 abbrev pub total : List Field → ℕ
 total [] = 0
-total (f ∷ fs) = size (f .width) + total fs
+total (f ∷ fs) = byteCount (f .width) + total fs
 
 abbrev pub numbers : List Field → List ℕ → ℕ → List ℤ
 numbers [] l k = []
 numbers (f ∷ fs) l k =
-    meant (f .coding) (f .width) (num (f .width) l k) ∷ numbers fs l (k + size (f .width))
+    meant (f .coding) (f .width) (num (f .width) l k) ∷ numbers fs l (k + byteCount (f .width))
 
 abbrev pub inRanges : List Field → List ℤ → Bool
 inRanges [] [] = true

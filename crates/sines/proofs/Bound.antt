@@ -18,7 +18,7 @@ use Rattle.minutes.specs.Entry.{entry}
 use Rattle.minutes.specs.Exact.{unity, straight, pi, factorial, weight, series, sinePowers}
 use Rattle.minutes.specs.Exact.{cosinePowers, bySeries, exactQuarter, exactSine, exactCosine}
 use Rattle.minutes.specs.Exact.{Within}
-use Rattle.minutes.specs.Quadrant.{circle, folded, turned, around, ahead}
+use Rattle.minutes.specs.Quadrant.{circle, folded, signedBy, around, quarterAhead}
 use Rattle.sines.specs.Sine.{between, quarterBy, sineBy, cosineBy, units}
 use Rattle.sines.proofs.Line.{at-minute}
 use Rattle.sines.proofs.Quadrants.{first, folded-most, around-up, around-down}
@@ -115,7 +115,7 @@ low-entry : (m : ℕ) → m ≤ 2700 → Half (entry m) (series sinePowers (600 
 low-entry m h = rw (by-sine (600 * m) (omega arith)) at (entry-half m (omega arith))
 
 middle-entry : Half (entry 2700) (series cosinePowers 1620000)
-unfolding Half entry nearest exactSine around turned folded exactQuarter bySeries series weight
+unfolding Half entry nearest exactSine around signedBy folded exactQuarter bySeries series weight
     unity straight pi factorial
 middle-entry = lit≤ tt
 
@@ -208,4 +208,4 @@ pub sine-near : (a : ℕ) → a < circle → Within units (sineBy entry a) (exac
 sine-near a h = omega (arith, sine-twelve a h)
 
 pub cosine-near : (a : ℕ) → Within units (cosineBy entry a) (exactCosine a)
-cosine-near a = sine-near (ahead a) (mod-lt (a + 3240000) (omega arith))
+cosine-near a = sine-near (quarterAhead a) (mod-lt (a + 3240000) (omega arith))

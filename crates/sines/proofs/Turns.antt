@@ -10,7 +10,7 @@ use borrow.Author.Tests.{lt-ltb, le-ltb}
 use lib.Dec.{ltb}
 use lib.IntN.{ℤ, pos, natAbs}
 use Rattle.answer.specs.Told.{given, refused}
-use Rattle.minutes.specs.Quadrant.{circle, folded, turned, ahead}
+use Rattle.minutes.specs.Quadrant.{circle, folded, signedBy, quarterAhead}
 use Rattle.sines.specs.Sine.{quarterBy, sineBy, cosineBy, ofAngle, sidesBy, turnedBy}
 use Rattle.sines.specs.declared.Sides.{Sides}
 use Rattle.sines.specs.declared.Turned.the-variants.{Are, OutOfRange}
@@ -29,14 +29,14 @@ module _ (e : ℕ → ℤ) (a : ℕ) where
   ]
 
   pub sides-are : (x m n : ℕ) (back : Bool) → x ≡ folded a → pos m ≡ quarterBy e x
-      → pos n ≡ quarterBy e (3240000 - x) → back ≡ ltb 6480000 (ahead a) → a < 12960000
+      → pos n ≡ quarterBy e (3240000 - x) → back ≡ ltb 6480000 (quarterAhead a) → a < 12960000
       → Are (record { sine = m; past = ltb 6480000 a; cosine = n; back = back }) ≡ turnedBy e a
   unfolding sidesBy
   sides-are x m n back f g k b h =
       rw (
         lt-ltb a 12960000 h,
         ← size-is e a x m f g,
-        ← size-is e (ahead a) (3240000 - x) n (rw f (sym (folded-ahead a h))) k,
+        ← size-is e (quarterAhead a) (3240000 - x) n (rw f (sym (folded-ahead a h))) k,
         b,
       )
 
@@ -47,18 +47,20 @@ module _ (a : ℕ) where
 
   module _ (e : ℕ → ℤ) (x n : ℕ) (f : x ≡ folded a) (h : a < 12960000) where
     pub sine-given : pos n ≡ quarterBy e x
-        → given (turned (ltb 6480000 a) (pos n)) ≡ ofAngle a (sineBy e a)
+        → given (signedBy (ltb 6480000 a) (pos n)) ≡ ofAngle a (sineBy e a)
     sine-given g = rw (lt-ltb a 12960000 h) (ap given (sine-is e a x n f g (ltb 6480000 a) refl))
 
     pub cosine-given : (back : Bool) → pos n ≡ quarterBy e (3240000 - x)
-        → back ≡ ltb 6480000 (ahead a) → given (turned back (pos n)) ≡ ofAngle a (cosineBy e a)
+        → back ≡ ltb 6480000 (quarterAhead a)
+        → given (signedBy back (pos n)) ≡ ofAngle a (cosineBy e a)
     cosine-given back g b =
         rw (lt-ltb a 12960000 h)
-        (ap given (sine-is e (ahead a) (3240000 - x) n (rw f (sym (folded-ahead a h))) g back b))
+        (ap given (sine-is e (quarterAhead a) (3240000 - x) n
+        (rw f (sym (folded-ahead a h))) g back b))
 
 -- the size with the sign of its half of the circle is the sine again, since no entry is negative
 signed-again : (e : ℕ → ℤ) → Entries e → (a : ℕ) → a < circle
-    → turned (ltb 6480000 a) (pos (natAbs (sineBy e a))) ≡ sineBy e a
+    → signedBy (ltb 6480000 a) (pos (natAbs (sineBy e a))) ≡ sineBy e a
 signed-again e entries a h =
     let q = quarter-size e entries (folded a) (folded-most a h) in
     rw (← size-is e a (folded a) (q .0) refl (sym (q .1)))
@@ -77,7 +79,7 @@ module _ (e : ℕ → ℤ) (entries : Entries e) (a : ℕ) (s : Sides) (g : Are 
   these : s ≡ sidesBy e a
   these = cc (rw (lt-ltb a circle in-circle) at g)
 
-  ahead-circle : ahead a < circle
+  ahead-circle : quarterAhead a < circle
   ahead-circle = mod-lt (a + 3240000) (omega arith)
 
   pub sine-most : s .sine ≤ 1000000000
@@ -86,12 +88,12 @@ module _ (e : ℕ → ℤ) (entries : Entries e) (a : ℕ) (s : Sides) (g : Are 
 
   pub cosine-most : s .cosine ≤ 1000000000
   unfolding sidesBy
-  cosine-most = rw these (sine-size e entries (ahead a) ahead-circle)
+  cosine-most = rw these (sine-size e entries (quarterAhead a) ahead-circle)
 
-  pub sine-signed : turned (s .past) (pos (s .sine)) ≡ sineBy e a
+  pub sine-signed : signedBy (s .past) (pos (s .sine)) ≡ sineBy e a
   unfolding sidesBy
   sine-signed = rw these (signed-again e entries a in-circle)
 
-  pub cosine-signed : turned (s .back) (pos (s .cosine)) ≡ cosineBy e a
+  pub cosine-signed : signedBy (s .back) (pos (s .cosine)) ≡ cosineBy e a
   unfolding sidesBy
-  cosine-signed = rw these (signed-again e entries (ahead a) ahead-circle)
+  cosine-signed = rw these (signed-again e entries (quarterAhead a) ahead-circle)

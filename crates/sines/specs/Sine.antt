@@ -11,7 +11,8 @@ use Rattle.answer.specs.Refusal.{outOfRange}
 use Rattle.answer.specs.Told.{ToldStep, given, refused, inRange}
 use Rattle.minutes.specs.Entry.{entry, lastMinute}
 use Rattle.minutes.specs.Exact.{nineDecimals}
-use Rattle.minutes.specs.Quadrant.{circle, halfCircle, tenthsInMinute, turned, around, ahead}
+use Rattle.minutes.specs.Quadrant.{circle, halfCircle, tenthsInMinute}
+use Rattle.minutes.specs.Quadrant.{signedBy, around, quarterAhead}
 use Rattle.sines.specs.declared.Sides.{Sides}
 use Rattle.sines.specs.declared.Turned.{Turned}
 use Rattle.sines.specs.declared.Turned.the-variants.{Are, OutOfRange}
@@ -31,7 +32,7 @@ unfoldable pub sineBy : (ℕ → ℤ) → ℕ → ℤ
 sineBy e a = around (quarterBy e) a
 
 abbrev pub cosineBy : (ℕ → ℤ) → ℕ → ℤ
-cosineBy e a = sineBy e (ahead a)
+cosineBy e a = sineBy e (quarterAhead a)
 
 -- the entries of any table that is lent: one above 1 counts as 1, so that no sine is above 1. Past
 -- 90 degrees a table has none, and no sine takes one
@@ -42,15 +43,15 @@ entryIn t m = cond (leb m lastMinute) (pos (min (getD t m 0) nineDecimals)) (ent
 abbrev pub ofAngle : ℕ → ℤ → ToldStep
 ofAngle a z = inRange (ltb a circle) z
 
--- the sine and the cosine of an angle as sizes, and whether each is negative: which it is by the
--- half of the circle, of an entry 0 too
+-- the sine and the cosine of an angle as sizes, and whether each is negative: the sign goes by the
+-- half of the circle, also where the size is 0
 unfoldable pub sidesBy : (ℕ → ℤ) → ℕ → Sides
 sidesBy e a =
     record {
       sine = natAbs (sineBy e a);
       past = ltb halfCircle a;
       cosine = natAbs (cosineBy e a);
-      back = ltb halfCircle (ahead a);
+      back = ltb halfCircle (quarterAhead a);
     }
 
 -- both, or the refusal
@@ -59,11 +60,11 @@ turnedBy e a = cond (ltb a circle) (Are (sidesBy e a)) OutOfRange
 
 -- what each case tells of the sine, and of the cosine: the size with its sign
 abbrev pub toldSine : Turned → ToldStep
-toldSine (Are s) = given (turned (s .past) (pos (s .sine)))
+toldSine (Are s) = given (signedBy (s .past) (pos (s .sine)))
 toldSine OutOfRange = refused outOfRange 0
 
 abbrev pub toldCosine : Turned → ToldStep
-toldCosine (Are s) = given (turned (s .back) (pos (s .cosine)))
+toldCosine (Are s) = given (signedBy (s .back) (pos (s .cosine)))
 toldCosine OutOfRange = refused outOfRange 0
 
 -- "Every sine is within 20 units of the ninth decimal of the exact one"

@@ -19,7 +19,7 @@ ghost use lib.Dec.{ltb};
 ghost use lib.IntN.{pos, natAbs};
 ghost use Rattle.answer.specs.Told.{toldAmount};
 ghost use Rattle.minutes.specs.Quadrant.{circle, halfCircle, quarterCircle, tenthsInMinute};
-ghost use Rattle.minutes.specs.Quadrant.{folded, turned, ahead};
+ghost use Rattle.minutes.specs.Quadrant.{folded, signedBy, quarterAhead};
 ghost use Rattle.minutes.specs.Exact.{nineDecimals};
 ghost use Rattle.minutes.specs.Entry.{entry, lastMinute};
 ghost use Rattle.sines.specs.Sine.{between as Sine·between, quarterBy, entryIn};
@@ -165,7 +165,7 @@ fn fold(angle: u32) -> u32
 // Whether the cosine is negative, which it is between 90 and 270 degrees.
 fn cosine_negative(angle: u32) -> bool
     requires { ⌜ angle < circle ⌝ }
-    ensures { λ r. ⌜ r ≡ ltb halfCircle (ahead angle) ⌝ }
+    ensures { λ r. ⌜ r ≡ ltb halfCircle (quarterAhead angle) ⌝ }
 {
     if angle <= QUARTER_CIRCLE {
         return false;
@@ -175,7 +175,7 @@ fn cosine_negative(angle: u32) -> bool
 
 // A size with its sign.
 fn signed(size: u32, negative: bool) -> Whole
-    ensures is { λ v. ⌜ v .v ≡ turned negative (pos size) ⌝ }
+    ensures is { λ v. ⌜ v .v ≡ signedBy negative (pos size) ⌝ }
     ensures size { λ v. ⌜ natAbs (v .v) ≡ size ⌝ }
 {
     let v = Whole::of_size(size as u64);

@@ -12,7 +12,7 @@ use Rattle.answer.specs.Told.{ToldStep, given, inside}
 use Rattle.minutes.specs.Entry.{entry}
 use Rattle.minutes.specs.Exact.{exactSine, exactQuarter, bySeries, series, weight, unity, straight}
 use Rattle.minutes.specs.Exact.{pi, factorial}
-use Rattle.minutes.specs.Quadrant.{around, turned, folded}
+use Rattle.minutes.specs.Quadrant.{around, signedBy, folded}
 use Rattle.sines.specs.Sine.{between, quarterBy, sineBy, ofAngle}
 use Rattle.steps.specs.Distance.{seaLevel, combine, grid, seaLevelStep, combineStep}
 use Rattle.steps.specs.Azimuth.{turn, misclosure, closesAngles, misclosureStep}
@@ -90,7 +90,8 @@ Hold figures =
     map (λ (f : Figure). f .rule) figures ≡ map (λ (f : Figure). given (f .printed)) figures
 
 pub marked-hold : Hold marked
-unfolding marked sineBy quarterBy between entry nearest exactSine around turned folded exactQuarter
+unfolding marked sineBy quarterBy between entry nearest exactSine around signedBy folded
+    exactQuarter
     bySeries series weight unity straight pi factorial seaLevel combine grid inside share move
     sineAlong
 marked-hold = refl

@@ -19,7 +19,7 @@ use Rattle.answer.specs.Told.{ToldStep, toldAmount, given, inRange}
 use Rattle.answer.specs.declared.Amount.{Amount}
 use Rattle.answer.specs.declared.Amount.the-variants as amount
 use Rattle.answer.proofs.Telling.{tells, refuses, value-given, both, not-second}
-use Rattle.minutes.specs.Quadrant.{circle, turned, ahead}
+use Rattle.minutes.specs.Quadrant.{circle, signedBy, quarterAhead}
 use Rattle.sines.specs.Sine.{entryIn, ofAngle, turnedBy}
 use Rattle.sines.specs.declared.Sides.{Sides}
 use Rattle.sines.specs.declared.Turned.{Turned}
@@ -40,16 +40,16 @@ module _ (distance size : ℕ) where
   product-small h k = product-most distance size 20100000 1000000000 h k
 
   module _ (n : ℕ) (is : n ≡ halfUp (distance * size) 10000000000) (negative : Bool) (v : ℤ) where
-    pub by-negative : v ≡ pos n → negative ≡ true → v ≡ move distance (turned negative (pos size))
-    unfolding move turned nearest
+    pub by-negative : v ≡ pos n → negative ≡ true → v ≡ move distance (signedBy negative (pos size))
+    unfolding move signedBy nearest
     by-negative e f = e ∙ rw (is, f, product)
       where
         product : negℤ (negℤ (pos size) *ℤ pos distance) ≡ pos (distance * size)
         product = ring (pos size ∷ pos distance ∷ []) (λ u. search exps) tt
 
     pub by-positive : (w : ℤ) → v ≡ negℤ w → w ≡ pos n → negative ≡ false
-        → v ≡ move distance (turned negative (pos size))
-    unfolding move turned nearest
+        → v ≡ move distance (signedBy negative (pos size))
+    unfolding move signedBy nearest
     by-positive w e g f =
         e ∙ rw (g, is, f, product, nearest-neg (pos (distance * size)) 10000000000 (omega arith))
       where
@@ -77,8 +77,8 @@ module _ (e : ℕ → ℤ) (axis : Axis) (distance azimuth : ℕ) where
 
 -- the sine that counts along an axis, by both sides of the azimuth
 abbrev sideAlong : Axis → Sides → ℤ
-sideAlong north s = turned (s .back) (pos (s .cosine))
-sideAlong east s = turned (s .past) (pos (s .sine))
+sideAlong north s = signedBy (s .back) (pos (s .cosine))
+sideAlong east s = signedBy (s .past) (pos (s .sine))
 
 module _ (t : List ℕ) (azimuth : ℕ) (r : Turned) (s : Sides) (g : r ≡ turnedBy (entryIn t) azimuth)
     (f : r ≡ turn.Are s) where
@@ -113,8 +113,8 @@ move-given e axis distance azimuth r near within g =
     (both _ _ (le-leb distance 20100000 near) (lt-ltb azimuth circle within))
 
 -- ---- one move by a sine that was told, which is its size with its sign
-signed : (z : ℤ) → turned (ltZ z (pos 0)) (pos (natAbs z)) ≡ z
-unfolding turned
+signed : (z : ℤ) → signedBy (ltZ z (pos 0)) (pos (natAbs z)) ≡ z
+unfolding signedBy
 signed (pos n) = rw (le-ltb n 0 (omega arith))
 signed (negsuc n) = refl
 
@@ -134,7 +134,7 @@ module _ (distance : ℕ) (s : Amount) where
     unfolding toldAmount
     size-small h = rw g (rw f at h)
 
-    pub move-told : (v : Whole) (below : Bool) → v .v ≡ move distance (turned below (pos size))
+    pub move-told : (v : Whole) (below : Bool) → v .v ≡ move distance (signedBy below (pos size))
         → below ≡ ltZ (w .v) (pos 0) → distance ≤ 20100000
         → toldAmount (amount.Is v) ≡ moveTold distance (toldAmount s)
     unfolding toldAmount
@@ -147,7 +147,7 @@ pub along-most : (e : ℕ → ℤ) → Entries e → (axis : Axis) (azimuth : �
     → natAbs (sineAlong e axis azimuth) ≤ 1000000000
 unfolding sineAlong
 along-most e entries north azimuth h =
-    sine-size e entries (ahead azimuth) (mod-lt (azimuth + 3240000) (omega arith))
+    sine-size e entries (quarterAhead azimuth) (mod-lt (azimuth + 3240000) (omega arith))
 along-most e entries east azimuth h = sine-size e entries azimuth h
 
 -- and what a caller has who was told it

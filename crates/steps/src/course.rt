@@ -11,7 +11,7 @@ ghost use lib.Dec.{eqb, leb};
 ghost use lib.IntN.{pos, natAbs};
 ghost use Rattle.answer.specs.Told.{toldAmount, inRange};
 ghost use Rattle.minutes.specs.Exact.{nineDecimals};
-ghost use Rattle.minutes.specs.Quadrant.{turned};
+ghost use Rattle.minutes.specs.Quadrant.{signedBy};
 ghost use Rattle.minutes.specs.Entry.{entry};
 ghost use Rattle.sines.specs.Sine.{entryIn};
 ghost use Rattle.steps.specs.Course.{north as Course·north, east as Course·east};
@@ -57,7 +57,7 @@ impl Moves {
 fn move_by(distance: u64, size: u32, negative: bool) -> Whole
     requires { ⌜ distance ≤ mostGrid ⌝ }
     requires { ⌜ size ≤ nineDecimals ⌝ }
-    ensures { λ r. ⌜ r .v ≡ Course·move distance (turned negative (pos size)) ⌝ }
+    ensures { λ r. ⌜ r .v ≡ Course·move distance (signedBy negative (pos size)) ⌝ }
 {
     let moved = Whole::of_size(whole::half_up(distance * size as u64, PER_HUNDREDTH));
     if negative {

@@ -16,8 +16,8 @@ use lib.Signed.{leZ, leZ-yes, ltZ-yes}
 use borrow.Author.Tests.{lt-ltb, le-ltb}
 use Rattle.whole.specs.Order.{_≤ᶻ_, _<ᶻ_}
 use Rattle.whole.proofs.Diff.{int}
-use Rattle.records.specs.Bytes.{Width, two, four, size, num, bytes, Coding, unsigned}
-use Rattle.records.specs.Bytes.{twosComplement, room, meant, written}
+use Rattle.records.specs.Bytes.{Width, two, four, byteCount, num, bytes, Coding, unsigned}
+use Rattle.records.specs.Bytes.{twosComplement, capacity, meant, written}
 use Rattle.records.specs.Record.{Field, Kind, Rec, table, look, kindFields, total, numbers}
 use Rattle.records.specs.Record.{inRanges}
 use Rattle.records.specs.Record.{spell, bodyOf, goodOf, bytesOf, numbersOf}
@@ -33,24 +33,24 @@ use Rattle.tape.proofs.Round.{reads-next}
 -- ---- what a field can write: the numbers above its floor and below its ceiling
 abbrev floor : Coding → Width → ℤ
 floor unsigned w = negsuc 0
-floor twosComplement w = negsuc (room w / 2)
+floor twosComplement w = negsuc (capacity w / 2)
 
 abbrev ceiling : Coding → Width → ℤ
-ceiling unsigned w = pos (room w)
-ceiling twosComplement w = pos (room w / 2)
+ceiling unsigned w = pos (capacity w)
+ceiling twosComplement w = pos (capacity w / 2)
 
 -- what is written of such a number is one of its width, and is meant as the number again
 meant-written : (c : Coding) (w : Width) (z : ℤ) → floor c w <ᶻ z → z <ᶻ ceiling c w
-    → (written w z < room w) × (meant c w (written w z) ≡ z)
+    → (written w z < capacity w) × (meant c w (written w z) ≡ z)
 unfolding meant written
 meant-written unsigned w (pos n) g h = (omega int, refl)
 meant-written unsigned w (negsuc n) g h = absurd (omega int)
 meant-written twosComplement w (pos n) g h =
-    let lower : n < room w / 2 = omega int in
+    let lower : n < capacity w / 2 = omega int in
     (omega arith, rw (lt-ltb _ _ lower))
 meant-written twosComplement w (negsuc n) g h =
-    let upper : room w / 2 ≤ room w - 1 - n = omega int in
-    let same : room w - 1 - (room w - 1 - n) ≡ n = omega int in
+    let upper : capacity w / 2 ≤ capacity w - 1 - n = omega int in
+    let same : capacity w - 1 - (capacity w - 1 - n) ≡ n = omega int in
     (omega int, rw (le-ltb _ _ upper, same))
 
 -- ---- every range of the table lies within that
@@ -84,7 +84,7 @@ first-and-rest f fs v vs e =
     and-eq-true-iff (leZ (f .low) v && leZ v (f .high)) (inRanges fs vs) .0 e
 
 in-range : (f : Field) (z : ℤ) → Fits f → InRange f z
-    → (written (f .width) z < room (f .width)) ×
+    → (written (f .width) z < capacity (f .width)) ×
     (meant (f .coding) (f .width) (written (f .width) z) ≡ z)
 in-range f z fits e =
     let i = and-eq-true-iff (leZ (f .low) z) (leZ z (f .high)) .0 e in
@@ -93,13 +93,13 @@ in-range f z fits e =
     meant-written (f .coding) (f .width) z (omega int) (omega int)
 
 -- ---- a number and its bytes
-length-bytes : (w : Width) (n : ℕ) → length (bytes w n) ≡ size w
+length-bytes : (w : Width) (n : ℕ) → length (bytes w n) ≡ byteCount w
 unfolding bytes
 length-bytes two n = refl
 length-bytes four n = refl
 
 -- the four digits are taken off one at a time, which is how `omega` can follow them
-num-bytes : (w : Width) (n : ℕ) (l : List ℕ) → n < room w → num w (bytes w n ++ l) 0 ≡ n
+num-bytes : (w : Width) (n : ℕ) (l : List ℕ) → n < capacity w → num w (bytes w n ++ l) 0 ≡ n
 unfolding num bytes
 num-bytes two n l h = omega arith
 num-bytes four n l h =
@@ -115,16 +115,16 @@ numbers-drop (f ∷ fs) n l k =
     rw (
       num-drop,
       add-comm n k,
-      add-right-comm k n (size (f .width)),
-      numbers-drop fs n l (k + size (f .width)),
+      add-right-comm k n (byteCount (f .width)),
+      numbers-drop fs n l (k + byteCount (f .width)),
     )
 
 numbers-past : (fs : List Field) (w : Width) (n : ℕ) (l : List ℕ)
-    → numbers fs (bytes w n ++ l) (0 + size w) ≡ numbers fs l 0
+    → numbers fs (bytes w n ++ l) (0 + byteCount w) ≡ numbers fs l 0
 numbers-past fs w n l =
     rw (
-      numbers-drop fs (size w) (bytes w n ++ l) 0,
-      drop-at (bytes w n) l (size w) (length-bytes w n),
+      numbers-drop fs (byteCount w) (bytes w n ++ l) 0,
+      drop-at (bytes w n) l (byteCount w) (length-bytes w n),
     )
 
 numbers-spell : (fs : List Field) (vs : List ℤ) (l : List ℕ) → Fit fs → inRanges fs vs ≡ true

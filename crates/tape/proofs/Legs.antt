@@ -13,7 +13,7 @@ use borrow.Author.Tests.{le-leb}
 use Rattle.records.specs.Record.{Rec, rowKind, projectKind, startKind}
 use Rattle.records.specs.Record.{bodyOf}
 use Rattle.tape.specs.Tape.{isLeg, recordsOf}
-use Rattle.tape.specs.Fields.{pick, none, placeOf, turns, angleOf, distanceOf, picked}
+use Rattle.tape.specs.Fields.{pick, none, placeOf, hasAngle, angleOf, distanceOf, picked}
 use Rattle.tape.specs.Fields.{AllBytes, DoesRead}
 use Rattle.tape.specs.Fields.{fieldsOf as named}
 use Rattle.tape.specs.Legs.{sightOf, sightAt, Rest, Legs, last, leg, Order, row, opens, LegAt}
@@ -24,23 +24,24 @@ use Rattle.tape.proofs.Rest.{kind-there, whole-there, numbers-there, re
 
 -- ---- the order: as many records turn as there are legs, and one more; the first of them are the
 -- legs
-legs-long : {rs : List Rec} → Legs rs → length (pick turns rs) ≡ suc (length (pick isLeg rs))
+legs-long : {rs : List Rec} → Legs rs → length (pick hasAngle rs) ≡ suc (length (pick isLeg rs))
 unfolding pick
 legs-long (last r e) = rw e
 legs-long (leg r {rs} e l) =
-    rw (pick-yes turns r rs (leg-turns (r .kind) e), pick-yes isLeg r rs e, legs-long l)
+    rw (pick-yes hasAngle r rs (leg-turns (r .kind) e), pick-yes isLeg r rs e, legs-long l)
 
 -- a record that is no leg and does not turn changes neither list, and one that is a leg is the
 -- first of both
 abbrev Same : List Rec → Type 0
 Same rs =
-    (k : ℕ) → k < length (pick isLeg rs) → getD (pick turns rs) k none ≡ getD (pick isLeg rs) k none
+    (k : ℕ) → k < length (pick isLeg rs)
+    → getD (pick hasAngle rs) k none ≡ getD (pick isLeg rs) k none
 
 same-leg : (r : Rec) (rs : List Rec) → isLeg (r .kind) ≡ true → Same rs → Same (r ∷ rs)
-same-leg r rs e ih = rw (pick-yes turns r rs (leg-turns (r .kind) e), pick-yes isLeg r rs e) go
+same-leg r rs e ih = rw (pick-yes hasAngle r rs (leg-turns (r .kind) e), pick-yes isLeg r rs e) go
   where
     go : (k : ℕ) → k < suc (length (pick isLeg rs))
-        → getD (r ∷ pick turns rs) k none ≡ getD (r ∷ pick isLeg rs) k none
+        → getD (r ∷ pick hasAngle rs) k none ≡ getD (r ∷ pick isLeg rs) k none
     go zero low = refl
     go (suc k) low = ih k (omega arith)
 
@@ -49,16 +50,17 @@ unfolding pick
 legs-same (last r e) = λ k low. absurd (omega (arith, ap length (pick-no isLeg r [] (rw e))))
 legs-same (leg r {rs} e l) = same-leg r rs e (legs-same l)
 
-module _ (k : ℕ) (r : Rec) (rs : List Rec) (is : r .kind ≡ k) (still : turns k ≡ false)
+module _ (k : ℕ) (r : Rec) (rs : List Rec) (is : r .kind ≡ k) (still : hasAngle k ≡ false)
     (none : isLeg k ≡ false) where
-  skip-long : length (pick turns rs) ≡ suc (length (pick isLeg rs))
-      → length (pick turns (r ∷ rs)) ≡ suc (length (pick isLeg (r ∷ rs)))
-  skip-long e = rw (skips turns k r rs is still, skips isLeg k r rs is none) e
+  skip-long : length (pick hasAngle rs) ≡ suc (length (pick isLeg rs))
+      → length (pick hasAngle (r ∷ rs)) ≡ suc (length (pick isLeg (r ∷ rs)))
+  skip-long e = rw (skips hasAngle k r rs is still, skips isLeg k r rs is none) e
 
   skip-same : Same rs → Same (r ∷ rs)
-  skip-same e = rw (skips turns k r rs is still, skips isLeg k r rs is none) e
+  skip-same e = rw (skips hasAngle k r rs is still, skips isLeg k r rs is none) e
 
-pub order-long : {rs : List Rec} → Order rs → length (pick turns rs) ≡ suc (length (pick isLeg rs))
+pub order-long : {rs : List Rec} → Order rs
+    → length (pick hasAngle rs) ≡ suc (length (pick isLeg rs))
 order-long (row r {rs} e o) = skip-long rowKind r rs e refl refl (order-long o)
 order-long (opens p s l {rs} one two is legs) =
     skip-long projectKind p _ one refl refl
@@ -75,23 +77,23 @@ record Front (tape : List ℕ) (k at : ℕ) : Type 0 where
   r : Rec
   rs : List Rec
   rest : Rest tape at (r ∷ rs)
-  is : getD (pick turns (recordsOf tape)) k none ≡ r
-  turning : turns (r .kind) ≡ true
+  is : getD (pick hasAngle (recordsOf tape)) k none ≡ r
+  turning : hasAngle (r .kind) ≡ true
 
 module _ (tape : List ℕ) (k at : ℕ) where
-  head-is : {r : Rec} {rs : List Rec} → r ∷ rs ≡ drop k (pick turns (recordsOf tape))
-      → getD (pick turns (recordsOf tape)) k none ≡ r
-  head-is e = sym (rw (← e, add-zero) at (getD-drop k (pick turns (recordsOf tape)) 0 none))
+  head-is : {r : Rec} {rs : List Rec} → r ∷ rs ≡ drop k (pick hasAngle (recordsOf tape))
+      → getD (pick hasAngle (recordsOf tape)) k none ≡ r
+  head-is e = sym (rw (← e, add-zero) at (getD-drop k (pick hasAngle (recordsOf tape)) 0 none))
 
   front-of : {rs : List Rec} → Legs rs → Rest tape at rs
-      → pick turns rs ≡ drop k (pick turns (recordsOf tape)) → Front tape k at
+      → pick hasAngle rs ≡ drop k (pick hasAngle (recordsOf tape)) → Front tape k at
   front-of (last r e) h less =
       let t = close-turns (r .kind) e in
-      let is = head-is (rw (pick-yes turns r [] t) at less) in
+      let is = head-is (rw (pick-yes hasAngle r [] t) at less) in
       record { r = r; rs = []; rest = h; is = is; turning = t }
   front-of (leg r {rs} e l) h less =
       let t = leg-turns (r .kind) e in
-      let is = head-is (rw (pick-yes turns r rs t) at less) in
+      let is = head-is (rw (pick-yes hasAngle r rs t) at less) in
       record { r = r; rs = rs; rest = h; is = is; turning = t }
 
   front : LegAt tape k at → Front tape k at
@@ -105,7 +107,7 @@ module _ (tape : List ℕ) (at : ℕ) (r : Rec) (rs : List Rec) (h : Rest tape a
       let whole = le-leb (at + 1 + bodyOf (r .kind)) (length tape) (whole-there tape at r rs h) in
       rw (kind-there tape at r rs h, numbers-there tape at r rs h, whole)
 
-  angle-is : turns (r .kind) ≡ true → sightAt tape at .angle ≡ angleOf r
+  angle-is : hasAngle (r .kind) ≡ true → sightAt tape at .angle ≡ angleOf r
   angle-is t = rw (sight-is, t)
 
   module _ (t : isLeg (r .kind) ≡ true) where
@@ -117,12 +119,12 @@ module _ (tape : List ℕ) (at : ℕ) (r : Rec) (rs : List Rec) (h : Rest tape a
 
 -- ---- leg 0 stands where the line begins
 first-at : (tape : List ℕ) {rs : List Rec} → Order rs → (at : ℕ) → Rest tape at rs
-    → pick turns rs ≡ pick turns (recordsOf tape)
+    → pick hasAngle rs ≡ pick hasAngle (recordsOf tape)
     → LegAt tape 0 (placeOf isLeg at rs)
 first-at tape (row r {rs} e o) at h same =
     rw (place-on isLeg r rs at (rw e))
     (first-at tape o (at + 1 + bodyOf (r .kind)) (rest-next tape at r rs h)
-    (rw (skips turns rowKind r rs e refl) at same))
+    (rw (skips hasAngle rowKind r rs e refl) at same))
 first-at tape (opens p s l {rs} one two is legs) at h same =
     let g = rest-next tape at p (s ∷ l ∷ rs) h in
     rw (
@@ -136,8 +138,8 @@ first-at tape (opens p s l {rs} one two is legs) at h same =
       legs = leg l is legs;
       less =
           rw (
-            skips turns projectKind p (s ∷ l ∷ rs) one refl,
-            skips turns startKind s (l ∷ rs) two refl,
+            skips hasAngle projectKind p (s ∷ l ∷ rs) one refl,
+            skips hasAngle startKind s (l ∷ rs) two refl,
           ) at same;
     })
 
@@ -153,7 +155,7 @@ unfolding picked angleOf
 leg-angle tape k at h =
     let f = front tape k at h in
     angle-is tape at (f .r) (f .rs) (f .rest) (f .turning)
-    ∙ sym (List·getD-map angleOf (pick turns (recordsOf tape)) k none ∙ ap angleOf (f .is))
+    ∙ sym (List·getD-map angleOf (pick hasAngle (recordsOf tape)) k none ∙ ap angleOf (f .is))
 
 -- ---- the next leg, and the distance, where there is one more
 module _ (tape : List ℕ) (d : DoesRead tape) (k at : ℕ) (h : LegAt tape k at)
@@ -169,26 +171,26 @@ module _ (tape : List ℕ) (d : DoesRead tape) (k at : ℕ) (h : LegAt tape k at
         legs-long (h .legs),
         ap length (h .less),
         order-long (order-of tape d .order),
-        length-drop k (pick turns all),
+        length-drop k (pick hasAngle all),
       )
 
   onward : {rs : List Rec} → Legs rs → rs ≡ h .rs
       → LegAt tape (k + 1) (sightAt tape at .next)
-      × (sightAt tape at .distance ≡ distanceOf (getD (pick turns all) k none))
+      × (sightAt tape at .distance ≡ distanceOf (getD (pick hasAngle all) k none))
   onward (last r e) same =
       let no-leg : pick isLeg (r ∷ []) ≡ [] = unfold pick in (pick-no isLeg r [] (rw e)) in
       let none : pick isLeg (h .rs) ≡ [] = rw (← same) no-leg in
       absurd (omega (arith, some-left, ap length none))
   onward (leg r {rs} e l) same =
       let rest : Rest tape at (r ∷ rs) = rw same (h .rest) in
-      let turns-first = pick-yes turns r rs (leg-turns (r .kind) e) in
-      let less : r ∷ pick turns rs ≡ drop k (pick turns all) =
+      let turns-first = pick-yes hasAngle r rs (leg-turns (r .kind) e) in
+      let less : r ∷ pick hasAngle rs ≡ drop k (pick hasAngle all) =
       sym turns-first ∙ rw same (h .less) in (
         record {
           rs = rs;
           rest = rw (next-is tape at r rs rest e) (rest-next tape at r rs rest);
           legs = l;
-          less = rw (← drop-drop 1 k (pick turns all), ← less);
+          less = rw (← drop-drop 1 k (pick hasAngle all), ← less);
         },
         distance-is tape at r rs rest e ∙ rw (head-is tape k at less),
       )

@@ -12,7 +12,7 @@ use lib.Dec.{eqb}
 use lib.IntN.{ℤ}
 use lib.ListN.{length, length-append, List·getD-append}
 use borrow.Author.Tests.{lt-ltb}
-use Rattle.records.specs.Bytes.{Width, two, four, size, num}
+use Rattle.records.specs.Bytes.{Width, two, four, byteCount, num}
 use Rattle.records.specs.Record.{Field, table, kindFields, total, numbers, numbersOf, bodyOf}
 use Rattle.answer.specs.Limit.{mostLegs}
 use Rattle.tape.specs.Tape.{mostRows, atRows, afterProject, lineBegun, afterLeg}
@@ -76,7 +76,8 @@ module _ (st : State) (k : ℕ) where
   came-ahead vs u (by.close e p to) = rw (e, p, to) (omega arith)
 
 -- ---- the numbers of a record that is whole are the same whatever follows
-num-more : (w : Width) (l r : List ℕ) (k : ℕ) → k + size w ≤ length l → num w (l ++ r) k ≡ num w l k
+num-more : (w : Width) (l r : List ℕ) (k : ℕ) → k + byteCount w ≤ length l
+    → num w (l ++ r) k ≡ num w l k
 unfolding num
 num-more two l r k h =
     rw (List·getD-append l r 0 k (omega arith), List·getD-append l r 0 (suc k) (omega arith))
@@ -92,7 +93,7 @@ numbers-more : (fs : List Field) (l r : List ℕ) (k : ℕ) → k + total fs ≤
     → numbers fs (l ++ r) k ≡ numbers fs l k
 numbers-more [] l r k h = refl
 numbers-more (f ∷ fs) l r k h =
-    let rest = numbers-more fs l r (k + size (f .width)) (omega arith) in
+    let rest = numbers-more fs l r (k + byteCount (f .width)) (omega arith) in
     rw (num-more (f .width) l r k (omega arith), rest)
 
 -- ---- a record at the front

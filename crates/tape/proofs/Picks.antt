@@ -9,7 +9,7 @@ use lib.ListN.{length, getD}
 use borrow.Author.Tests.{eqb-true, eq-eqb, ne-eqb}
 use Rattle.records.specs.Record.{Rec, legKind, closeKind, bodyOf, goodOf}
 use Rattle.tape.specs.Tape.{isLeg}
-use Rattle.tape.specs.Fields.{pick, none, only, placeOf, turns}
+use Rattle.tape.specs.Fields.{pick, none, only, placeOf, hasAngle}
 use Rattle.tape.specs.Legs.{Good}
 use Rattle.tape.proofs.Walk.{no}
 
@@ -58,10 +58,10 @@ module _ (k n : ℕ) (t : isLeg k ≡ true) (f : isLeg n ≡ false) where
   apart-leg = ne-eqb n k (λ e. no (rw (← e, f) at t))
 
 -- ---- legs turn, and so does the close
-pub leg-turns : (k : ℕ) → isLeg k ≡ true → turns k ≡ true
+pub leg-turns : (k : ℕ) → isLeg k ≡ true → hasAngle k ≡ true
 leg-turns k e = rw e
 
-pub close-turns : (k : ℕ) → k ≡ closeKind → turns k ≡ true
+pub close-turns : (k : ℕ) → k ≡ closeKind → hasAngle k ≡ true
 close-turns k e = rw e
 
 -- ---- a record that is picked is good

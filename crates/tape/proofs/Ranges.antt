@@ -19,7 +19,8 @@ use Rattle.records.specs.Record.{Field, Rec, rec, rowKind, projectKind, startKi
 use Rattle.records.specs.Record.{closeKind}
 use Rattle.records.specs.Record.{kindFields, table, inRanges, goodOf}
 use Rattle.tape.specs.Tape.{isLeg, start, recordsOf}
-use Rattle.tape.specs.Fields.{Fields, numberAt, pick, none, only, turns, angleOf, distanceOf}
+use Rattle.tape.specs.Fields.{Fields, numberAt, pick, none, only, hasAngle, angleOf}
+use Rattle.tape.specs.Fields.{distanceOf}
 use Rattle.tape.specs.Fields.{isRow, scaleOf, picked, DoesRead}
 use Rattle.tape.specs.Fields.{fieldsOf as named}
 use Rattle.tape.specs.Legs.{Good, Legs, last, leg, Order, row, opens}
@@ -135,7 +136,7 @@ close-small : Small closeKind
 unfolding angleOf kindFields table
 close-small vs g = omega (arith, plain _ _ _ (good-inside closeKind vs g .0) .1)
 
-angle-small : (r : Rec) → Picked turns r → angleOf r < 12960000
+angle-small : (r : Rec) → Picked hasAngle r → angleOf r < 12960000
 angle-small r t =
     either (isLeg (r .kind)) (eqb (r .kind) closeKind)
     (λ l. by-leg Small leg-small (r .kind) l)
@@ -179,8 +180,8 @@ ranged tape d =
     record {
       legs = (h .a-leg, omega (arith, o .legs, o .few (omega arith)));
       angles =
-          λ k i. rw (List·getD-map angleOf (pick turns rs) k none)
-          (angle-small _ (picked-at turns rs g k (omega (arith, order-long (o .order)))));
+          λ k i. rw (List·getD-map angleOf (pick hasAngle rs) k none)
+          (angle-small _ (picked-at hasAngle rs g k (omega (arith, order-long (o .order)))));
       distances =
           λ k i. rw (List·getD-map distanceOf (pick isLeg rs) k none)
           (distance-small _ (picked-at isLeg rs g k i));

@@ -10,7 +10,7 @@ use mathlib.Core.List.{List, [], _∷_, _++_}
 use lib.IntN.{ℤ, pos}
 use lib.ListN.{length, getD, drop, length-append, length-drop}
 use lib.Seq.{drop-drop, drop-at}
-use Rattle.records.specs.Bytes.{two, size, num, unsigned, meant}
+use Rattle.records.specs.Bytes.{two, byteCount, num, unsigned, meant}
 use Rattle.records.specs.Record.{Field, Rec, kindFields, numbers, numbersOf, bodyOf, bytesOf}
 use Rattle.tape.specs.Fields.{signedAt, numberAt, AllBytes, DoesRead}
 use Rattle.tape.specs.Legs.{Good, Rest}
@@ -92,7 +92,7 @@ last-there tape at r h =
 abbrev pub offset : List Field → ℕ → ℕ
 offset [] i = 0
 offset (f ∷ fs) zero = 0
-offset (f ∷ fs) (suc i) = size (f .width) + offset fs i
+offset (f ∷ fs) (suc i) = byteCount (f .width) + offset fs i
 
 abbrev pub fieldAt : List Field → ℕ → Field
 fieldAt fs i =
@@ -109,8 +109,8 @@ value-in : (fs : List Field) (i : ℕ) (l : List ℕ) (k : ℕ) → i < length f
 value-in [] i l k h = absurd (omega arith)
 value-in (f ∷ fs) zero l k h = rw add-zero
 value-in (f ∷ fs) (suc i) l k h =
-    rw (← add-assoc k (size (f .width)) (offset fs i))
-    (value-in fs i l (k + size (f .width)) (omega arith))
+    rw (← add-assoc k (byteCount (f .width)) (offset fs i))
+    (value-in fs i l (k + byteCount (f .width)) (omega arith))
 
 module _ (tape : List ℕ) (at : ℕ) (r : Rec) (rs : List Rec) (h : Rest tape at (r ∷ rs)) where
   pub value-there : (k i p : ℕ) → r .kind ≡ k → i < length (kindFields k)

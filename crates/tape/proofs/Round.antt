@@ -10,8 +10,8 @@ use lib.Dec.{ltb}
 use lib.ListN.{length, getD, take, drop, take-append-drop}
 use lib.Seq.{drop-cons, drop-drop, take-add}
 use borrow.Author.Tests.{lt-ltb}
-use Rattle.records.specs.Bytes.{Width, two, four, size, num, bytes, Coding, unsigned}
-use Rattle.records.specs.Bytes.{twosComplement, room, meant, written}
+use Rattle.records.specs.Bytes.{Width, two, four, byteCount, num, bytes, Coding, unsigned}
+use Rattle.records.specs.Bytes.{twosComplement, capacity, meant, written}
 use Rattle.records.specs.Record.{Field, kindFields, total, numbers, spell, bodyOf, bytesOf}
 use Rattle.records.specs.Record.{numbersOf}
 use Rattle.tape.specs.Tape.{Step, Next, Stop, walk, stepOf, judge, onStep, start, readingOf}
@@ -30,11 +30,11 @@ Bytes l = (i : ℕ) → getD l i 0 < 256
 -- ---- a number
 -- the upper half of two's complement is counted down from the top when read and when written, and
 -- so comes out as it was
-written-meant : (c : Coding) (w : Width) (n : ℕ) → n < room w → written w (meant c w n) ≡ n
+written-meant : (c : Coding) (w : Width) (n : ℕ) → n < capacity w → written w (meant c w n) ≡ n
 unfolding meant written
 written-meant unsigned w n h = refl
 written-meant twosComplement w n h =
-    by-test (λ z. written w z ≡ n) (ltb n (room w / 2)) (λ t. refl) (λ t. omega arith)
+    by-test (λ z. written w z ≡ n) (ltb n (capacity w / 2)) (λ t. refl) (λ t. omega arith)
 
 -- the bytes from place k on, of which the first is x
 front : (l : List ℕ) (k n : ℕ) {x : ℕ} {xs : List ℕ} → k < length l → x ≡ getD l k 0
@@ -42,8 +42,8 @@ front : (l : List ℕ) (k n : ℕ) {x : ℕ} {xs : List ℕ} → k < length l �
 front l k n h e f = rw (drop-cons l k 0 h, e, f)
 
 -- a number that was read is one of its width, and its bytes are those that it was read from
-bytes-num : (w : Width) (l : List ℕ) (k : ℕ) → Bytes l → k + size w ≤ length l
-    → (num w l k < room w) × (bytes w (num w l k) ≡ take (size w) (drop k l))
+bytes-num : (w : Width) (l : List ℕ) (k : ℕ) → Bytes l → k + byteCount w ≤ length l
+    → (num w l k < capacity w) × (bytes w (num w l k) ≡ take (byteCount w) (drop k l))
 unfolding num bytes
 bytes-num two l k b h =
     let p = b k in
@@ -74,7 +74,7 @@ spell-numbers (f ∷ fs) l k b h =
       take-add,
       drop-drop,
       n .1,
-      spell-numbers fs l (k + size (f .width)) b (omega arith),
+      spell-numbers fs l (k + byteCount (f .width)) b (omega arith),
     )
 
 record-bytes : (x : ℕ) (l : List ℕ) → Bytes (x ∷ l) → bodyOf x ≤ length l

@@ -79,8 +79,8 @@ placeOf p at [] = at
 placeOf p at (r ∷ rs) = cond (p (r .kind)) at (placeOf p (at + 1 + bodyOf (r .kind)) rs)
 
 -- the kinds of records that turn an angle: the legs, and the close
-abbrev pub turns : ℕ → Bool
-turns k = isLeg k || eqb k closeKind
+abbrev pub hasAngle : ℕ → Bool
+hasAngle k = isLeg k || eqb k closeKind
 
 unfoldable pub angleOf : Rec → ℕ
 angleOf r = numberAt r 0
@@ -120,7 +120,7 @@ abbrev pub measuredOf : List Rec → Measured
 measuredOf rs =
     record {
       legs = length (pick isLeg rs);
-      angles = map angleOf (pick turns rs);
+      angles = map angleOf (pick hasAngle rs);
       distances = map distanceOf (pick isLeg rs);
     }
 
@@ -145,7 +145,8 @@ picked rs =
 abbrev pub fieldsOf : List ℕ → Fields
 fieldsOf tape = picked (recordsOf tape)
 
--- ---- the answer: the latitude has told the scale, and the angles and distances stay on the tape
+-- ---- the answer. The latitude is left out, since only its scale is used; the angles and distances
+-- stay on the tape
 abbrev pub controlOf : Fields → Control
 controlOf f =
     record {

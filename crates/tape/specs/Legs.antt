@@ -9,7 +9,7 @@ use lib.ListN.{length, getD, drop}
 use Rattle.records.specs.Record.{rowKind, projectKind, startKind, closeKind}
 use Rattle.records.specs.Record.{Rec, rec, bodyOf, numbersOf, goodOf}
 use Rattle.tape.specs.Tape.{isLeg, recordsOf, tapeOf}
-use Rattle.tape.specs.Fields.{pick, turns, angleOf, distanceOf}
+use Rattle.tape.specs.Fields.{pick, hasAngle, angleOf, distanceOf}
 use Rattle.tape.specs.declared.Sight.{Sight}
 
 -- ---- at any place of any tape: the angle and the distance of the leg that stands there, and the
@@ -24,7 +24,7 @@ noSight at = record { angle = 0; distance = 0; next = at }
 abbrev pub sightOf : Rec → ℕ → Sight
 sightOf r at =
     record {
-      angle = cond (turns (r .kind)) (angleOf r) 0;
+      angle = cond (hasAngle (r .kind)) (angleOf r) 0;
       distance = cond (isLeg (r .kind)) (distanceOf r) 0;
       next = cond (isLeg (r .kind)) (at + 1 + bodyOf (r .kind)) at;
     }
@@ -43,7 +43,7 @@ pub record Rest (tape : List ℕ) (at : ℕ) (rs : List Rec) : Type 0 where
   pub is : drop at tape ≡ tapeOf rs
   pub good : Good rs
 
--- ---- "Order: 0 to 600 rows ..; one project; one start; 1 to 64 legs; one close; end."
+-- ---- the order of the records of a tape that reads, without the limits of rows and legs
 -- legs, and then the close
 pub data Legs : List Rec → Type 0 where
   last : (r : Rec) → r .kind ≡ closeKind → Legs (r ∷ [])
@@ -61,4 +61,4 @@ pub record LegAt (tape : List ℕ) (k at : ℕ) : Type 0 where
   pub rs : List Rec
   pub rest : Rest tape at rs
   pub legs : Legs rs
-  pub less : pick turns rs ≡ drop k (pick turns (recordsOf tape))
+  pub less : pick hasAngle rs ≡ drop k (pick hasAngle (recordsOf tape))

@@ -77,6 +77,7 @@ rowNext st minute =
     cond (eqb (st .rows) 0 || eqb minute (st .next)) (Next (withRow st minute)) (Stop badRows)
 
 -- "no row for the mean latitude": 7. The rows have the minutes from next - rows to next - 1
+-- (`no-row` of proofs/Rows.antt)
 unfoldable pub projectNext : State → ℕ → Step
 projectNext st latitude =
     cond (ltb latitude (st .next) && leb (st .next - latitude) (st .rows))

@@ -1,24 +1,24 @@
 -- `put_closures` meets its contract: three named amounts are put one after the other.
 use borrow.Author.Needs.{needs}
 use Rattle.text.proofs.Putting.{room-one, room-two, room-three, then}
-use Rattle.desk.specs.Sheet.{closures}
+use Rattle.desk.specs.Sheet.{closuresText}
 use Rattle.desk.proofs.lines.put_closures.Statement.{statement}
 use Rattle.desk.proofs.lines.put_closures.Tie as tie
 
 put-named-requires : tie.Need-put-named-requires
-unfolding closures
+unfolding closuresText
 put-named-requires c κs = (search needs, search room-one)
 
 put-feet-requires : tie.Need-put-feet-requires
-unfolding closures
+unfolding closuresText
 put-feet-requires c κs = search room-two
 
 put-feet-requires-2 : tie.Need-put-feet-requires-2
-unfolding closures
+unfolding closuresText
 put-feet-requires-2 c κs = search room-three
 
 returns : tie.Need-returns
-unfolding closures
+unfolding closuresText
 returns c = search then
 
 pub put-closures-spec : {M : Type 1} → statement M
