@@ -2,6 +2,7 @@
 
 Each angle, or each distance, is changed in turn as if it alone were wrong. A small closure after
 the change says that this one accounts for the refusal; docs/REFUSALS.md says how to read the lines.
+bin/find-blunder takes field notes too.
 """
 
 import sys
@@ -11,6 +12,7 @@ from typing import Iterator, Sequence
 
 from . import desk, steps
 from .desk import Point
+from .notes import circle
 from .ranges import CIRCLE
 from .rounding import nearest
 from .sheet import LONGEST_INPUT, refused_line, signed, unsigned
@@ -21,6 +23,9 @@ TENTHS_AN_ANGLE = 100
 PARTS = 5_000
 
 UNIT = 10**9  # of a sine
+
+ACCEPTED = "accepted: the misclosure and the closure are within what is allowed"
+TAKES = "second.blunder takes a tape on standard input, no argument; bin/find-blunder takes notes"
 
 
 def size(way: Point) -> str:
@@ -57,28 +62,42 @@ def distance_lines(fields: Fields, missed: Point) -> Iterator[str]:
         yield f"distance of leg {number} by {change}: the position closure is {left} feet"
 
 
+def angular(fields: Fields, w: int) -> str:
+    """W in seconds, then in degrees, minutes and seconds, and its limit."""
+    angles = len(fields.legs) + 1
+    parts = ("-" if w < 0 else "+") + circle(abs(w))
+    limit = TENTHS_AN_ANGLE * angles // 10
+    return f"W={signed(w, 1)} seconds ({parts}); {angles} angles may miss by {limit}"
+
+
+def limit_of_position(fields: Fields) -> str:
+    """By how much a traverse of this length may miss its fixed end."""
+    total = sum(desk.grid_distances(fields))
+    return f"{unsigned(total, 3)} feet may miss by {unsigned(total // PARTS, 3)}"
+
+
 def position_lines(fields: Fields) -> Iterator[str]:
     """The position closure by the balanced azimuths, its limit, and the search for a distance."""
     missed = closure(fields, desk.balanced_azimuths(fields))
-    total = sum(desk.grid_distances(fields))
     north, east = (signed(amount, 2) for amount in missed)
-    yield (
-        f"N={north} E={east}: {size(missed)} feet;"
-        f" {unsigned(total, 3)} feet may miss by {unsigned(total // PARTS, 3)}"
-    )
+    yield f"N={north} E={east}: {size(missed)} feet; {limit_of_position(fields)}"
     yield from distance_lines(fields, missed)
 
 
 def lines(fields: Fields) -> Iterator[str]:
-    """How a tape that reads closes, and the search for one blunder.
+    """Whether a tape that reads is accepted, how it closes, and the search for one blunder.
 
     Distances are searched only where the angles close: by angles that do not, no leg has a
     direction to go by.
     """
-    w, angles = desk.misclosure(fields), len(fields.legs) + 1
-    yield f"W={signed(w, 1)} seconds; {angles} angles may miss by {TENTHS_AN_ANGLE * angles // 10}"
+    w = desk.misclosure(fields)
+    if not desk.adjust(fields, 0).number:
+        yield ACCEPTED
+    yield angular(fields, w)
     if desk.sure(steps.misclosure_passes(w, len(fields.legs))):
         yield from position_lines(fields)
+    else:
+        yield limit_of_position(fields)
     if w:
         yield from angle_lines(fields, w)
 
@@ -91,10 +110,20 @@ def search(tape: bytes) -> str:
     return "".join(f"{line}\n" for line in lines(reading.fields))
 
 
-def main() -> None:
+def is_text(given: bytes) -> bool:
+    """Whether the first byte is one that a text may start with; a tape starts with 5 or 1."""
+    return given[:1] >= b" " or given[:1] in (b"\t", b"\n", b"\r")
+
+
+def main(words: Sequence[str]) -> None:
     """Standard input to standard output; no accepted tape is longer than what is read."""
-    sys.stdout.write(search(sys.stdin.buffer.read(LONGEST_INPUT)))
+    if words:
+        sys.exit(TAKES)
+    given = sys.stdin.buffer.read(LONGEST_INPUT)
+    if is_text(given):
+        sys.exit(f"this is no tape: {TAKES}")
+    sys.stdout.write(search(given))
 
 
 if __name__ == "__main__":
-    main()
+    main(sys.argv[1:])

@@ -59,6 +59,14 @@ def with_distance(fields: Fields, leg: int, by: int) -> Fields:
     return fields._replace(legs=fields.legs[:leg] + (taped,) + fields.legs[leg + 1:])
 
 
+def called(given: bytes, *words: str) -> "subprocess.CompletedProcess[bytes]":
+    """What the search answers as a program, to words and standard input."""
+    return subprocess.run(
+        [sys.executable, "-m", "second.blunder", *words],
+        input=given, capture_output=True, cwd=FOLDER,
+    )
+
+
 class Search(unittest.TestCase):
     def test_an_angle_between_the_ends_alone_leaves_a_small_closure(self) -> None:
         for leg in range(1, 5):
@@ -91,15 +99,38 @@ class Search(unittest.TestCase):
         self.assertEqual(suspects(wrong, "angle"), ["angle of leg 5 less W"])
         self.assertEqual(suspects(wrong, "distance"), [])
 
+    def test_the_limit_of_the_position_stands_in_the_second_line(self) -> None:
+        for wrong, said in (
+            (with_angle(lot(), 2, DEGREE), "1524.368 feet may miss by 0.304"),
+            (with_distance(lot(), 2, TEN_FEET), "1534.368 feet may miss by 0.306"),
+        ):
+            self.assertEqual(search_of(wrong).splitlines()[1].split("; ")[-1], said)
+
+    def test_an_accepted_one_is_said_to_be(self) -> None:
+        first, second, *_ = search_of(lot()).splitlines()
+        self.assertEqual(first, blunder.ACCEPTED)
+        self.assertTrue(second.startswith("W=+9.0 seconds (+0 00 09.0); "))
+        for wrong in (with_angle(lot(), 2, DEGREE), with_distance(lot(), 2, TEN_FEET)):
+            self.assertTrue(search_of(wrong).startswith("W="))
+
+    def test_w_in_degrees_minutes_and_seconds(self) -> None:
+        said = blunder.angular(lot(), -4_540_980)
+        self.assertEqual(said, "W=-454098.0 seconds (-126 08 18.0); 6 angles may miss by 60")
+
     def test_a_tape_that_does_not_read_has_its_refusal(self) -> None:
         self.assertEqual(blunder.search(b""), "REFUSED 2\n")
 
     def test_as_a_program(self) -> None:
         tape = (FOLDER / "examples" / "refused.tape").read_bytes()
-        done = subprocess.run(
-            [sys.executable, "-m", "second.blunder"], input=tape, capture_output=True, cwd=FOLDER)
+        done = called(tape)
         self.assertEqual((done.returncode, done.stderr), (0, b""))
-        self.assertTrue(done.stdout.startswith(b"W=+3600.5 seconds; 5 angles may miss by 50\n"))
+        self.assertEqual(done.stdout.decode(), blunder.search(tape))
+
+    def test_what_it_takes_is_said_to_an_argument_and_to_text(self) -> None:
+        notes = (FOLDER / "examples" / "refused.txt").read_bytes()
+        for done in (called(b"", "examples/refused.tape"), called(notes), called(b"\n" + notes)):
+            self.assertEqual((done.returncode, done.stdout), (1, b""))
+            self.assertIn(blunder.TAKES, done.stderr.decode())
 
 
 if __name__ == "__main__":

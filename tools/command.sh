@@ -8,6 +8,7 @@ scratch=$(mktemp -d) || exit 2
 trap 'rm -rf "$scratch"' EXIT
 input=$scratch/input
 made=$scratch/made
+answer=$scratch/answer
 
 # The most bytes that a program takes: no answer depends on a later one. No more are read, so that
 # an input without an end is answered too.
@@ -46,12 +47,21 @@ build() {
     exec 9>&-
 }
 
+# What the search for a blunder runs on.
+need_python() {
+    command -v python3 >/dev/null ||
+        fail "there is no python3 on the PATH, which this search runs on ($root/README.md)"
+    python3 -c 'import sys; sys.exit(sys.version_info < (3, 9))' ||
+        fail "this search needs python3 of version 3.9 or later ($root/README.md)"
+}
+
 # Builds each program that is missing or older than the sources.
 need() {
     local name
     command -v rt >/dev/null ||
         fail "the Rattle kit is not installed: there is no rt on the PATH. The kit proves and" \
-            "compiles the programs ($root/README.md)"
+            "compiles Rattle. It is a tool of its own and no part of this repository: whoever" \
+            "provides it installs it, under /opt/rattle for example ($root/README.md)"
     for name; do
         is_built "$name" || build "$name"
     done
@@ -108,17 +118,28 @@ take_input() {
     head -c "$most" >"$input" || fail "the input cannot be read"
 }
 
-# Whether a line of a file starts with one of the five words of field notes, in small or large
-# letters and after a byte-order mark too. It is asked of a file that was refused as a tape.
-is_notes() {
-    LC_ALL=C grep -aqiE $'^(\xEF\xBB\xBF)?[ \t]*(row|project|start|leg|close)[ \t]' "$1"
-}
-
-# Whether the first byte of a file is a kind of record, 1 to 5, which no text starts with.
+# Whether the first byte of a file is a kind of record, 1 to 5. No good notes start with one, and
+# every good tape does.
 is_tape() {
     local first
     first=$(od -An -tu1 -N1 "$1")
     ((1 <= first && first <= 5))
+}
+
+# Whether a file is no tape and a line of it starts with one of the five words of field notes, in
+# small or large letters and after a byte-order mark too.
+is_notes() {
+    ! is_tape "$1" &&
+        LC_ALL=C grep -aqiE $'^(\xEF\xBB\xBF)?[ \t]*(row|project|start|leg|close)[ \t]' "$1"
+}
+
+# Whether a file starts with the byte-order mark of UTF-16, in either order. No good notes and no
+# good tape start so.
+is_utf16() {
+    case $(od -An -tx1 -N2 "$1") in
+    *ff\ fe* | *fe\ ff*) ;;
+    *) return 1 ;;
+    esac
 }
 
 # ---- what a command answers
@@ -138,49 +159,67 @@ case $1 in
 esac
 }
 
-# Why the desk refused a tape, with the number NUMBER: explain NUMBER TAPE.
-explain() {
+# What a file is where a tape (recognise tape FILE) or notes (recognise notes FILE) are wanted and
+# it cannot be one, and the next step; 1 where nothing is recognised, and nothing is said.
+recognise() {
     if [ ! -s "$2" ]; then
-        say "there is nothing in the input: no tape"
-    elif is_notes "$2"; then
-        say "this is no tape but field notes, of which $root/bin/notes-to-sheet makes a sheet"
+        say "there is nothing in the input"
+    elif is_utf16 "$2"; then
+        say "the text is UTF-16; save it as UTF-8 or plain text"
+    elif [ "$1" = tape ] && is_notes "$2"; then
+        say "these are field notes: $root/bin/notes-to-sheet takes them"
+    elif [ "$1" = notes ] && is_tape "$2"; then
+        say "this is a tape: $root/bin/sheet takes it"
     else
-        say "refusal $1: $(meaning_of "$1"); what to check: $root/docs/REFUSALS.md"
+        return 1
     fi
 }
 
-# The sheet of a tape, as the proved program prints it; 1 where it is a refusal.
-print_sheet() {
+# Why the desk refused a tape, with the number NUMBER: explain NUMBER TAPE.
+explain() {
+    recognise tape "$2" ||
+        say "refusal $1: $(meaning_of "$1"); what to check: $root/docs/REFUSALS.md"
+}
+
+# An answer about a tape, in the file $answer: print_answer TAPE; 1 where it is a refusal.
+print_answer() {
     local word number
-    run sheet <"$1" >"$scratch/sheet"
-    cat "$scratch/sheet"
-    read -r word number <"$scratch/sheet"
+    cat "$answer"
+    read -r word number <"$answer"
     [ "$word" != REFUSED ] || {
         explain "$number" "$1"
         return 1
     }
 }
 
-# What a program makes of the input, in the file $made. A program has no exit status of its own:
-# where it made nothing, it has said why on standard error.
+# The sheet of a tape, as the proved program prints it; 1 where it is a refusal.
+print_sheet() {
+    run sheet <"$1" >"$answer"
+    print_answer "$1"
+}
+
+# The search for a blunder in a tape, as second/blunder.py prints it; 1 where the tape does not
+# read.
+print_search() {
+    (cd "$root" && exec python3 -B -m second.blunder) <"$1" >"$answer" ||
+        fail "the search in $root/second/blunder.py did not run to its end"
+    print_answer "$1"
+}
+
+# What a program makes of the input, in the file $made: make_by PROGRAM KIND, where KIND is what the
+# program takes, a tape or notes. A program has no exit status of its own: where it made nothing, it
+# has said why on standard error, and the command ends with 1. Of a file of another kind that is
+# said alone; of an empty one it is said first.
 make_by() {
+    if recognise "$2" "$input" && [ -s "$input" ]; then
+        exit 1
+    fi
     run "$1" <"$input" >"$made"
-    [ -s "$made" ]
+    [ -s "$made" ] || exit 1
 }
 
 # The tape of field notes; the command ends with 1 where they have a slip.
-tape_of_input() {
-    make_by notes_tape || {
-        ! is_tape "$input" ||
-            say "these are no field notes but a tape, of which $root/bin/sheet makes a sheet"
-        exit 1
-    }
-}
+tape_of_input() { make_by notes_tape notes; }
 
-# The field notes of a tape; the command ends with 1 where it is refused.
-notes_of_input() {
-    make_by tape_notes || {
-        ! is_notes "$input" || say "this is no tape but field notes"
-        exit 1
-    }
-}
+# The field notes of a tape; the command ends with 1 where it does not read.
+notes_of_input() { make_by tape_notes tape; }
