@@ -9,8 +9,9 @@
  * printed in that order, one after the other; a refused tape has one line instead, REFUSED and the
  * refusal's number, and standard error says of which tape it is, and at which byte.
  *
- * The library is for x86-64. The program ends with 0 where every tape has its sheet, with 1 where
- * one is refused, with 2 where one could not be read or an answer not be written.
+ * The library is for x86-64, and is to be made again after a change of its sources, which gcc does
+ * not notice. The program ends with 0 where every tape has its sheet, with 1 where one is refused,
+ * with 2 where one could not be read or an answer not be written.
  */
 #include <errno.h>
 #include <stdio.h>
@@ -26,7 +27,8 @@ enum { TAPE = 8192 };
 /* How the program ends: the worst that any of its tapes met. */
 enum { PRINTED = 0, REFUSED = 1, FAILED = 2 };
 
-/* The desk's table of sines, 21 KB that no call changes. */
+/* The desk's table of sines, 21 KB: main has vas_table fill it before it is lent, since a table is
+ * not checked, and no other call changes it. */
 static uint32_t sines[VAS_TABLE];
 
 /* Says why a tape cannot be read. */

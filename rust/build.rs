@@ -1,5 +1,6 @@
 //! Links the desk's static library, libvastrudhil.a. It is looked for in the folder that
-//! VASTRUDHIL_LIB names (an absolute path), or else where `rt staticlib vastrudhil` leaves it.
+//! VASTRUDHIL_LIB names, or else where `rt staticlib vastrudhil` leaves it. VASTRUDHIL_LIB must be
+//! an absolute path: cargo runs this script and the linker in folders of its own choice.
 //!
 //! The library is for x86-64. For another target nothing is linked, so that the crate can still be
 //! checked there; VASTRUDHIL_LINK=1 links all the same, for a library of one's own making.
@@ -19,6 +20,12 @@ fn main() {
         Some(folder) => PathBuf::from(folder),
         None => PathBuf::from(set_by_cargo("CARGO_MANIFEST_DIR")).join("../target/staticlib"),
     };
+    if folder.is_relative() {
+        println!(
+            "cargo:warning=VASTRUDHIL_LIB must be an absolute path, and is {}",
+            folder.display()
+        );
+    }
     let library = folder.join("libvastrudhil.a");
     println!("cargo:rerun-if-changed={}", library.display());
     if !library.exists() {

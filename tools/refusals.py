@@ -1,9 +1,9 @@
 #!/usr/bin/env python3
 """Checks that each of the nine refusals has the same words wherever it is told: in the table of
-docs/REFUSALS.md, at the head of the C header, in Rust's reason(), in the messages about field
-notes, and in what the commands in bin/ say. It also checks that a message which names a refusal's
-number in other words stands in docs/REFUSALS.md. Run from anywhere: tools/refusals.py; it prints
-what differs, and ends with 1 if anything does."""
+docs/REFUSALS.md, at the head of the C header, in the C table of docs/VASTRUDHIL.md, in Rust's
+reason(), in the messages about field notes, and in what the commands in bin/ say. It also checks
+that a message which names a refusal's number in other words stands in docs/REFUSALS.md. Run from
+anywhere: tools/refusals.py; it prints what differs, and ends with 1 if anything does."""
 
 import re
 import sys
@@ -12,6 +12,7 @@ from pathlib import Path
 ROOT = Path(__file__).resolve().parent.parent
 PAGE = ROOT / "docs" / "REFUSALS.md"
 HEADER = ROOT / "include" / "vastrudhil.h"
+LIBRARY_PAGE = ROOT / "docs" / "VASTRUDHIL.md"
 RUST = ROOT / "rust" / "src" / "lib.rs"
 MESSAGES = ROOT / "crates" / "notes" / "src" / "message.rt"
 NUMBERS = ROOT / "crates" / "answer" / "src" / "refusal.rt"
@@ -38,6 +39,12 @@ def of_page() -> Words:
 
 def of_header() -> Words:
     return by_number(re.findall(r"^ \*   (\d)  (\w.*)$", text_of(HEADER), re.M))
+
+
+def of_library_page() -> Words:
+    """The C table of words, by their places in it. The first is of no refusal."""
+    table = text_of(LIBRARY_PAGE).partition(" reason[10] = {\n")[2].partition("\n};\n")[0]
+    return dict(list(enumerate(re.findall(r'^ +"(.*)",$', table, re.M)))[1:])
 
 
 def of_rust() -> Words:
@@ -77,7 +84,13 @@ def numbered() -> list[str]:
 
 def main() -> None:
     page = of_page()
-    told = {HEADER: of_header, RUST: of_rust, MESSAGES: of_messages, COMMANDS: of_commands}
+    told = {
+        HEADER: of_header,
+        LIBRARY_PAGE: of_library_page,
+        RUST: of_rust,
+        MESSAGES: of_messages,
+        COMMANDS: of_commands,
+    }
     found = [] if sorted(page) == [*range(1, 10)] else [f"docs/REFUSALS.md: has {sorted(page)}"]
     for place, read in told.items():
         found += differences(place, read(), page)

@@ -36,6 +36,9 @@
 //! coordinates, closures, latitudes and departures in hundredths of a foot; distances in
 //! thousandths of a foot; factors in ten-millionths; sines in units of the ninth decimal.
 //!
+//! A latitude is how far north and a departure how far east, minus for south and west. A closure is
+//! the computed end less the fixed end.
+//!
 //! # Many tapes
 //!
 //! A function that needs sines lays out the desk's table of them, once in a call. A program that
@@ -67,6 +70,8 @@ use std::fmt;
 pub const SHEET: usize = sys::SHEET;
 
 /// Why the desk does not answer, and where (`docs/RULES.md`, "Nine refusals").
+///
+/// The first that applies is given: 1, then 2 to 7 in the order of the tape, then 8, then 9.
 #[derive(Clone, Copy, Debug, PartialEq, Eq, Hash)]
 pub struct Refusal {
     /// Which of the nine refusals it is: 1 to 9.
@@ -124,19 +129,19 @@ fn valued<T: Default>(call: impl FnOnce(&mut T) -> u32) -> Result<T, Refusal> {
 
 // ---- distances (docs/RULES.md, "Distances")
 
-/// The sea level factor of a mean elevation of -1,000..20,000 feet.
+/// The sea level factor of a mean elevation of `-1_000..=20_000` feet.
 pub fn sea_level(elevation: i64) -> Result<u64, Refusal> {
     valued(|value| sys::vas_sea_level(elevation, value))
 }
 
-/// The combined factor of a sea level factor and a scale factor, each 9,990,000..10,010,000: the
+/// The combined factor of a sea level factor and a scale factor, each `9_990_000..=10_010_000`: the
 /// nearest ten-millionth of their product.
 pub fn combine(sea: u64, scale: u64) -> Result<u64, Refusal> {
     valued(|value| sys::vas_combine(sea, scale, value))
 }
 
-/// The grid distance of a measured one of 1,000..20,000,000, by a combined factor of
-/// 9,980,000..10,020,010.
+/// The grid distance of a measured one of `1_000..=20_000_000`, by a combined factor of
+/// `9_980_000..=10_020_010`.
 pub fn grid(distance: u64, factor: u64) -> Result<u64, Refusal> {
     valued(|value| sys::vas_grid(distance, factor, value))
 }
@@ -145,7 +150,8 @@ pub fn grid(distance: u64, factor: u64) -> Result<u64, Refusal> {
 
 /// The desk's own table of sines, one for every whole minute from 0 to 90 degrees.
 ///
-/// There is no other way to make one, so that what is answered with it is what the desk answers.
+/// The library does not check a table that is lent to it. A `Table` is only made filled, and what
+/// it holds cannot be changed, so that what is answered with it is what the desk answers.
 #[derive(Clone, PartialEq, Eq)]
 pub struct Table(Box<[u32; sys::TABLE]>);
 
@@ -214,13 +220,13 @@ pub fn misclosure(carried: u32, given: u32) -> Result<i64, Refusal> {
     valued(|value| sys::vas_misclosure(carried, given, value))
 }
 
-/// Whether a misclosure of size up to 6,480,000 is within its limit over `n` legs, 1..64.
+/// Whether a misclosure of size up to 6,480,000 is within its limit over `n` legs, `1..=64`.
 pub fn closes_angles(w: i64, n: u64) -> Result<bool, Refusal> {
     valued(|value| sys::vas_closes_angles(w, n, value))
 }
 
-/// The share of a misclosure of size up to 6,480,000 at the `j`-th of `n` + 1 angles, `n` of 1..64
-/// and `j` of 0..`n` + 1.
+/// The share of a misclosure of size up to 6,480,000 at the `j`-th of `n` + 1 angles, `n` of
+/// `1..=64` and `j` of `0..=n + 1`.
 pub fn angle_share(w: i64, j: u64, n: u64) -> Result<i64, Refusal> {
     valued(|value| sys::vas_angle_share(w, j, n, value))
 }
@@ -232,12 +238,12 @@ pub fn balanced(azimuth: u32, share: i64) -> Result<u64, Refusal> {
 
 // ---- latitude and departure (docs/RULES.md, "Azimuths and legs")
 
-/// The latitude, how far north, of a grid distance of 0..20,100,000 along an azimuth.
+/// The latitude, how far north, of a grid distance of `0..=20_100_000` along an azimuth.
 pub fn latitude(distance: u64, azimuth: u32) -> Result<i64, Refusal> {
     valued(|value| sys::vas_latitude(distance, azimuth, value))
 }
 
-/// The departure, how far east, of a grid distance of 0..20,100,000 along an azimuth.
+/// The departure, how far east, of a grid distance of `0..=20_100_000` along an azimuth.
 pub fn departure(distance: u64, azimuth: u32) -> Result<i64, Refusal> {
     valued(|value| sys::vas_departure(distance, azimuth, value))
 }
@@ -255,19 +261,19 @@ pub fn departure_in(table: &Table, distance: u64, azimuth: u32) -> Result<i64, R
 // ---- closure and compass rule (docs/RULES.md, "Closure and compass rule")
 
 /// Whether closures of size up to 1,200,000,000 are within the limit, for a sum `s` of grid
-/// distances of 1..1,300,000,000.
+/// distances of `1..=1_300_000_000`.
 pub fn closes(north: i64, east: i64, s: u64) -> Result<bool, Refusal> {
     valued(|value| sys::vas_closes(north, east, s, value))
 }
 
 /// The precision number of closures of size up to 26,000, for a sum `s` of grid distances of
-/// 1..1,300,000,000; 0 where both closures are 0.
+/// `1..=1_300_000_000`; 0 where both closures are 0.
 pub fn precision(north: i64, east: i64, s: u64) -> Result<u64, Refusal> {
     valued(|value| sys::vas_precision(north, east, s, value))
 }
 
-/// The share of a closure of size up to 26,000 at a part, 0..`whole`, of a whole,
-/// 1..1,300,000,000.
+/// The share of a closure of size up to 26,000 at a part, `0..=whole`, of a whole,
+/// `1..=1_300_000_000`.
 pub fn share(closure: i64, part: u64, whole: u64) -> Result<i64, Refusal> {
     valued(|value| sys::vas_share(closure, part, whole, value))
 }
@@ -284,7 +290,9 @@ pub fn doubled_area(offsets: &[[i64; 2]]) -> Result<i64, Refusal> {
 
 /// A tape under way: records are put one after the other, each by the desk's own writer.
 ///
-/// The writer tests each record by itself. Whether the records make a tape together, [`read`] says.
+/// The writer tests each record by itself. A refused record leaves the tape as it was. Whether the
+/// records make a tape together, [`read`] says. The bytes of each record stand in `docs/RULES.md`,
+/// "The tape"; the longest tape that reads has 4,811.
 #[derive(Clone, Debug, Default, PartialEq, Eq)]
 pub struct TapeWriter {
     bytes: Vec<u8>,
@@ -296,7 +304,7 @@ impl TapeWriter {
         Self::default()
     }
 
-    /// A row of the zone table: minute 0..5,400, scale factor 9,990,000..10,010,000.
+    /// A row of the zone table: minute `0..=5_400`, scale factor `9_990_000..=10_010_000`.
     pub fn row(&mut self, minute: u32, factor: u32) -> Result<&mut Self, Refusal> {
         // SAFETY: `put` lends pointer and length of one list.
         self.put(|out, len, at, place, next| unsafe {
@@ -304,8 +312,8 @@ impl TapeWriter {
         })
     }
 
-    /// The project: its mean latitude 0..5,400 in minutes, its mean elevation -1,000..20,000 in
-    /// feet.
+    /// The project: its mean latitude `0..=5_400` in minutes, its mean elevation
+    /// `-1_000..=20_000` in feet.
     pub fn project(&mut self, latitude: u32, elevation: i64) -> Result<&mut Self, Refusal> {
         // SAFETY: `put` lends pointer and length of one list.
         self.put(|out, len, at, place, next| unsafe {
@@ -313,7 +321,7 @@ impl TapeWriter {
         })
     }
 
-    /// The start: a fixed point of 0..1,000,000,000 each way, and the azimuth to the mark.
+    /// The start: a fixed point of `0..=1_000_000_000` each way, and the azimuth to the mark.
     pub fn start(&mut self, northing: u32, easting: u32, mark: u32) -> Result<&mut Self, Refusal> {
         // SAFETY: `put` lends pointer and length of one list.
         self.put(|out, len, at, place, next| unsafe {
@@ -321,7 +329,7 @@ impl TapeWriter {
         })
     }
 
-    /// A leg: its angle right, its measured distance 1,000..20,000,000.
+    /// A leg: its angle right, its measured distance `1_000..=20_000_000`.
     pub fn leg(&mut self, angle: u32, distance: u32) -> Result<&mut Self, Refusal> {
         // SAFETY: `put` lends pointer and length of one list.
         self.put(|out, len, at, place, next| unsafe {
@@ -329,7 +337,8 @@ impl TapeWriter {
         })
     }
 
-    /// The close: the closing angle, the fixed end, and the azimuth to the closing mark.
+    /// The close: the closing angle, the fixed end of `0..=1_000_000_000` each way, and the azimuth
+    /// to the closing mark.
     pub fn close(
         &mut self,
         angle: u32,
@@ -373,6 +382,9 @@ impl TapeWriter {
 // ---- a whole tape
 
 /// The reading: whether the bytes are a tape, by refusals 2 to 7.
+///
+/// No function gives the fields of a tape back: a program that wants them reads the bytes, by the
+/// table in `docs/RULES.md`, "The tape".
 pub fn read(tape: &[u8]) -> Result<(), Refusal> {
     // SAFETY: pointer and length are those of one list.
     placed(|place| unsafe { sys::vas_read(tape.as_ptr(), tape.len(), place) })
@@ -383,9 +395,9 @@ pub fn read(tape: &[u8]) -> Result<(), Refusal> {
 pub struct Traverse {
     /// W, the angular misclosure.
     pub w: i64,
-    /// The closure in northing.
+    /// The closure in northing: the computed end less the fixed end.
     pub north: i64,
-    /// The closure in easting.
+    /// The closure in easting: the computed end less the fixed end.
     pub east: i64,
     /// The precision number, 1 in so many; 0 where both closures are 0.
     pub precision: u64,
