@@ -153,13 +153,13 @@ def line_record(number: int, words: Sequence[bytes]) -> Record:
     line = LINES.get(words[0])
     if line is None:
         slip_at(number, "expected row, project, start, leg or close")
-    behind = iter(words[1:])
+    after = iter(words[1:])
     values = [
-        sum(worth * item_value(number, item, next(behind, None))
+        sum(worth * item_value(number, item, next(after, None))
             for item, worth in zip(field, WORTH[field]))
         for field in line.fields
     ]
-    if next(behind, None) is not None:
+    if next(after, None) is not None:
         slip_at(number, "expected the end of the line; text stands behind the last number")
     record = line.record(*values)
     if not in_range(record):

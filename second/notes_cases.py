@@ -114,8 +114,8 @@ def line_slips() -> Iterator[bytes]:
         for strange in STRANGE:
             k = 1 + (at * 5 + len(strange)) % (len(words) - 1)
             yield joined(lines[:at] + [b" ".join(words[:k] + [strange] + words[k + 1:])] + lines[at + 1:])
-        for behind in (b" x", b" 1", b" \r", b"\r", b"x"):
-            yield joined(lines[:at] + [line + behind] + lines[at + 1:])
+        for after in (b" x", b" 1", b" \r", b"\r", b"x"):
+            yield joined(lines[:at] + [line + after] + lines[at + 1:])
 
 
 def item_slips() -> Iterator[bytes]:

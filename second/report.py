@@ -22,7 +22,7 @@ from .tapes import examples
 PAGE = DOCS / "DOCUMENTS.md"
 
 INTRODUCTION = """\
-The manuals behind the rules work out traverses and single steps by hand. Those that were brought into
+The manuals that the rules come from work out traverses and single steps by hand. Those that were brought into
 `second/documents/` are worked again here by the desk (the second program's, in Python), and the printed figure stands
 beside the desk's. `python3 -m second.report write` makes this page.
 

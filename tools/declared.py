@@ -22,7 +22,7 @@ NOTHING = "()"
 
 
 class Declared(NamedTuple):
-    """What a place declares: of each function the parameters, as `name: type`, and behind them the answer; and the constants."""
+    """What a place declares: of each function the parameters, as `name: type`, and after them the answer; and the constants."""
 
     functions: dict[str, list[str]]
     constants: dict[str, str]
@@ -34,7 +34,7 @@ def unread(place: Path, what: str) -> NoReturn:
 
 
 def parts(parameters: str) -> list[str]:
-    """The parameters one by one, with single spaces; the last may have a comma behind it."""
+    """The parameters one by one, with single spaces; the last may have a comma after it."""
     return [" ".join(part.split()) for part in parameters.split(",") if part.strip()]
 
 

@@ -14,7 +14,7 @@
 #include "vastrudhil.h"
 
 /* Room for a bundle, for the words, the sheet and the tape of a case, and for the offsets of an area. Of words and sheet there is always some
- * behind what is lent, so that a step beyond that shows. */
+ * after what is lent, so that a step beyond that shows. */
 enum { BUNDLE = 1 << 22, WORDS = 256, BYTES = 4300, TAPE = 1 << 16, OFFSETS = 255 };
 
 /* What every number that is to be told holds before a call: one that is not told shows. No coordinate is so large. */
@@ -30,7 +30,7 @@ static _Noreturn void fail(const char *why) {
     exit(1);
 }
 
-/* ---- what a bundle consists of: numbers, high byte first, and bytes behind their length */
+/* ---- what a bundle consists of: numbers, high byte first, and bytes after their length */
 
 struct bytes {
     const uint8_t *at;
@@ -91,7 +91,7 @@ static void write_next(struct bytes *rest, uint8_t *out, size_t out_len) {
         fail("a record of a tape that reads was not written");
 }
 
-/* After each record, out is the tape up to the record's end, and what it was before from there on, one byte behind the lent ones with it. */
+/* After each record, out is the tape up to the record's end, and what it was before from there on, one byte after the lent ones with it. */
 static void write_again(struct bytes tape) {
     static uint8_t out[TAPE], before[TAPE];
     /* no byte is what it has to become */
@@ -205,7 +205,7 @@ static void answer_desk(struct bytes *rest) {
 }
 
 /* ---- what a step answers: number, place, which is always 0, and value. The value comes by its pointer, since nothing says whether C takes the
- * value of an argument before or behind the call that stands in another. */
+ * value of an argument before or after the call that stands in another. */
 
 static void tell_count(uint32_t number, const uint64_t *value) {
     printf("%" PRIu32 " 0 %" PRIu64 "\n", number, *value);
