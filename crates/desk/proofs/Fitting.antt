@@ -50,11 +50,11 @@ area-most z true h = simp length-append (omega (arith, amount-most [] 4 18 z (om
 area-most z false h = omega arith
 
 -- the words of the first n stations are small
-abbrev Small : List ℤ → ℕ → Type 0
-Small words n = (axis : Axis) (k : ℕ) → k < n
+abbrev WordsFit : List ℤ → ℕ → Type 0
+WordsFit words n = (axis : Axis) (k : ℕ) → k < n
     → natAbs (getD words (wordIndex axis k) (pos 0)) < 2 ^ 40
 
-stations-most : (words : List ℤ) (n : ℕ) → n < 100 → Small words n
+stations-most : (words : List ℤ) (n : ℕ) → n < 100 → WordsFit words n
     → length (stationLines words n) ≤ 40 * n
 unfolding stationLines lineOf
 stations-most words zero h small = omega arith
@@ -69,7 +69,7 @@ stations-most words (suc k) h small =
           (small east k (omega arith)),
     ))
 
-text-most : (t : ToldTraverse) (words : List ℤ) → Sized t → Small words (t .legs + 1)
+text-most : (t : ToldTraverse) (words : List ℤ) → Sized t → WordsFit words (t .legs + 1)
     → length (textOf t words) ≤ 4096
 unfolding textOf
 text-most t words s small =

@@ -48,8 +48,8 @@ largest-root q s p h r = (
       (le-div-iff-mul-le {k = 100 * q} (omega arith) .1 i) (r .1),
 )
 
-small : (q s : ℕ) → s < 2 ^ 32 → s * s / (100 * q) < 4 ^ 32
-small q s h = lt-of-le-of-lt (div-le-self (s * s) (100 * q))
+quotient-small : (q s : ℕ) → s < 2 ^ 32 → s * s / (100 * q) < 4 ^ 32
+quotient-small q s h = lt-of-le-of-lt (div-le-self (s * s) (100 * q))
     (lt-of-le-of-lt (product-most s s (2 ^ 32 - 1) (2 ^ 32 - 1) (omega arith) (omega arith))
     (lit< tt))
 
@@ -63,7 +63,7 @@ precision-is north east s h =
       | no n ↦
           let l = largest-root (squares north east) s (root 32 (s * s / (100 * squares north east)))
           (omega arith) (root-is 32 (s * s / (100 * squares north east))
-          (small (squares north east) s h)) in
+          (quotient-small (squares north east) s h)) in
           rw (ne-eqb (squares north east) 0 n)
           (record { none = λ z. absurd (n z); fits = λ z. l .0; largest = λ z. l .1 })
     ]
@@ -154,7 +154,7 @@ module _ (north east : ℤ) (both s : ℕ) (b : both ≡ squares north east) whe
       rw (ne-eqb (squares north east) 0 (λ w. z (b ∙ w)))
       (root-unique (s * s / (100 * both)) r (root 32 (s * s / (100 * squares north east))) h
       (rw b (root-is 32 (s * s / (100 * squares north east))
-      (small (squares north east) s (omega arith)))))
+      (quotient-small (squares north east) s (omega arith)))))
 
   -- the rule, of what is told: none of no closures, and else the root of the quotient
   pub zero-told : both ≡ 0 → PrecisionTold north east s (toldCount (Is 0))

@@ -125,21 +125,21 @@ each (opens p s l {rs} one two is legs) =
 -- ---- the angle of a record that turns, the distance of a leg, and the factor of a row that is
 -- there
 -- kind by kind, for the numbers vs
-abbrev Small : ℕ → Type 0
-Small k = (vs : List ℤ) → goodOf k vs ≡ true → angleOf (rec k vs) < 12960000
+abbrev AngleFits : ℕ → Type 0
+AngleFits k = (vs : List ℤ) → goodOf k vs ≡ true → angleOf (rec k vs) < 12960000
 
-leg-small : Small legKind
+leg-small : AngleFits legKind
 unfolding angleOf kindFields table
 leg-small vs g = omega (arith, plain _ _ _ (good-inside legKind vs g .0) .1)
 
-close-small : Small closeKind
+close-small : AngleFits closeKind
 unfolding angleOf kindFields table
 close-small vs g = omega (arith, plain _ _ _ (good-inside closeKind vs g .0) .1)
 
 angle-small : (r : Rec) → Picked hasAngle r → angleOf r < 12960000
 angle-small r t =
     either (isLeg (r .kind)) (eqb (r .kind) closeKind)
-    (λ l. by-leg Small leg-small (r .kind) l)
+    (λ l. by-leg AngleFits leg-small (r .kind) l)
     (λ c. rw (eqb-true (r .kind) closeKind c) close-small)
     (t .kind)
     (r .values)
