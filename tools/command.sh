@@ -60,8 +60,8 @@ need() {
     local name
     command -v rt >/dev/null ||
         fail "the Rattle kit is not installed: there is no rt on the PATH. The kit proves and" \
-            "compiles Rattle. It is a tool of its own and no part of this repository: whoever" \
-            "provides it installs it, under /opt/rattle for example ($root/README.md)"
+            "compiles Rattle. It is a tool of its own and no part of this repository: those who" \
+            "provide it install it, under /opt/rattle for example ($root/README.md)"
     for name; do
         is_built "$name" || build "$name"
     done

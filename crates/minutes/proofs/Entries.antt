@@ -1,12 +1,12 @@
 -- The table's rule: one test that antt computes over all 5,401 entries against the power series,
 -- and the laws that carry it to each entry.
-use mathlib.Core.Path.{_≡_, refl, sym, _∙_, ap}
+use mathlib.Core.Path.{_≡_, refl, sym, ap}
 use mathlib.Core.Bool.{Bool, false, _&&_}
-use Prim.Native.Nat.{ℕ, _≤_, min}
+use Prim.Native.Nat.{ℕ, _≤_}
 use native.Mathlib.Omega.{arith}
 use lib.Dec.{T, leb, leb→le, eqb, eqb→eq}
 use lib.ListN.{getD}
-use lib.IntN.{ℤ, pos, negsuc, natAbs}
+use lib.IntN.{ℤ, pos, negsuc}
 use Rattle.whole.specs.Nearest.{nearest}
 use Rattle.minutes.specs.Exact.{exactSine, exactQuarter, bySeries, series, weight, unity}
 use Rattle.minutes.specs.Exact.{straight, pi, factorial}

@@ -1,9 +1,9 @@
 -- Sums along an index: bounded, and telescoped. Assumes nothing.
-use mathlib.Core.Path.{_≡_, refl}
+use mathlib.Core.Path.{_≡_}
 use mathlib.Core.List.{[], _∷_}
 use Prim.Native.Nat.{ℕ, zero, suc, _*_, _≤_, _<_}
 use native.Mathlib.Omega.{arith}
-use lib.IntN.{ℤ, pos, natAbs, _-ℤ_}
+use lib.IntN.{ℤ, natAbs, _-ℤ_}
 use Rattle.whole.specs.Sum.{sumTo}
 use Rattle.whole.proofs.Laws.{triangle}
 use Rattle.whole.proofs.Ring.{ring, exps}
