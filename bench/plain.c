@@ -234,28 +234,12 @@ static uint64_t combined_factor(const struct survey *s) {
     return nearest(sea_level * s->scale, 10000000);
 }
 
-struct sides {
-    uint32_t sine, cosine;
-};
-
-/* The sine so many tenths past a minute: the straight line to the next entry and the bend above it, rounded once. As
- * entries rise, nothing is below 0. The bend is cut off to whole 600ths of a unit, which all else in the sum is: so the
- * sum is rounded as if nothing were cut off. The weight is 84,616 x tenths x (600 - tenths); times an entry it is below
- * 2^63. */
-static uint32_t past_minute(uint32_t minute, uint32_t tenths, uint64_t weight) {
-    uint32_t entry = minutes[minute];
-    uint32_t bend = (uint32_t)(entry * weight / 1200000000000000);
-    return entry + ((minutes[minute + 1] - entry) * tenths + bend + 300) / 600;
-}
-
-/* Sine and cosine of an angle of the first quadrant. The cosine counts the same tenths from the other end of the table,
- * and of a minute, so that the weight is the same. */
-static struct sides sides(uint32_t angle) {
+/* The sine of an angle of the first quadrant. */
+static uint32_t quadrant_sine(uint32_t angle) {
     uint32_t minute = angle / 600, tenths = angle % 600;
     if (tenths == 0)
-        return (struct sides){minutes[minute], minutes[5400 - minute]};
-    uint64_t weight = (uint64_t)84616 * (tenths * (600 - tenths));
-    return (struct sides){past_minute(minute, tenths, weight), past_minute(5399 - minute, 600 - tenths, weight)};
+        return minutes[minute];
+    return minutes[minute] + ((minutes[minute + 1] - minutes[minute]) * tenths + 300) / 600;
 }
 
 /* Latitude and departure. An azimuth runs from south, so that both have the sign opposite to cosine and sine. */
@@ -263,9 +247,9 @@ static struct point course(uint64_t distance, uint32_t azimuth) {
     bool west = azimuth < HALF_CIRCLE;
     bool south = azimuth < QUADRANT || azimuth > HALF_CIRCLE + QUADRANT;
     uint32_t half = west ? azimuth : azimuth - HALF_CIRCLE;
-    struct sides size = sides(half <= QUADRANT ? half : HALF_CIRCLE - half);
-    uint64_t north = nearest(distance * size.cosine, 10000000000);
-    uint64_t east = nearest(distance * size.sine, 10000000000);
+    uint32_t folded = half <= QUADRANT ? half : HALF_CIRCLE - half;
+    uint64_t north = nearest(distance * quadrant_sine(QUADRANT - folded), 10000000000);
+    uint64_t east = nearest(distance * quadrant_sine(folded), 10000000000);
     return (struct point){signed_as(south, north), signed_as(west, east)};
 }
 

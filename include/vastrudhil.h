@@ -103,13 +103,12 @@ uint32_t vas_grid(uint64_t distance, uint64_t factor, uint64_t *value);
  * rules', with its entries for sines.) */
 void vas_table(uint32_t table[VAS_TABLE]);
 
-/* The sine and the cosine of an angle, within 2 units of the ninth decimal of the rules' exact
- * ones. */
+/* The sine and the cosine of an angle. */
 uint32_t vas_sine(uint32_t angle, int64_t *value);
 uint32_t vas_cosine(uint32_t angle, int64_t *value);
 
 /* The sine and the cosine in a lent table, whatever it holds; an entry above 1000000000 counts as
- * 1000000000, and no value is above 1000000011 or below -1000000011. */
+ * 1000000000. */
 uint32_t vas_sine_in(const uint32_t table[VAS_TABLE], uint32_t angle, int64_t *value);
 uint32_t vas_cosine_in(const uint32_t table[VAS_TABLE], uint32_t angle, int64_t *value);
 

@@ -9,11 +9,9 @@ stands in the bundle, and how it is answered, is said by its subject's module.
 import sys
 from typing import Iterable
 
-from . import desk_cases, lent_cases, notes_cases, reading_cases, sine_cases, step_cases
+from . import desk_cases, notes_cases, reading_cases, sine_cases, step_cases
 
-SUBJECTS = {
-    "T": reading_cases, "N": notes_cases, "D": desk_cases, "S": step_cases, "A": sine_cases, "L": lent_cases,
-}
+SUBJECTS = {"T": reading_cases, "N": notes_cases, "D": desk_cases, "S": step_cases, "A": sine_cases}
 
 
 def bundle(letter: str, cases: Iterable) -> bytes:

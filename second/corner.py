@@ -2,12 +2,12 @@
 
 That no corner stands further off than its bound is proved elsewhere. Made here is
 what shows it to a surveyor: the bound for some numbers of legs, one worked
-traverse, what the bend of the sines gained, and a picture of many. All is exact
-until it is printed, and no printed error is smaller than the true one.
+traverse, and a picture of many. All is exact until it is printed, and no printed
+error is smaller than the true one.
 
-`python3 -m second.corner table`, `worked`, `gained` or `plot` prints one of them;
-`check` says where docs/CORNER.md or docs/corner.svg is not what is made here, and
-`write` makes both so.
+`python3 -m second.corner table`, `worked` or `plot` prints one of them; `check`
+says where docs/CORNER.md or docs/corner.svg is not what is made here, and `write`
+makes both so.
 """
 
 import sys
@@ -15,15 +15,14 @@ from fractions import Fraction
 from functools import lru_cache
 from math import ceil
 from random import Random
-from typing import Callable, Iterator, NamedTuple, Sequence
+from typing import Iterator, NamedTuple, Sequence
 
-from . import desk, documents, drawing, sines, tapes
+from . import desk, documents, drawing, tapes
 from .page import DOCS, Sections, all_filled, markdown, read, stale
-from .ranges import CIRCLE, HALF_CIRCLE, LEGS, QUADRANT
-from .rounding import nearest
+from .ranges import CIRCLE, HALF_CIRCLE, LEGS
 from .sheet import plain, signed
 from .tape import Close, Fields, Leg, Project, Row, Start, read_tape, write_tape
-from .unrounded import ONCE, PER_LEG, bound, unrounded
+from .unrounded import bound, unrounded
 
 PAGE = DOCS / "CORNER.md"
 PICTURE = DOCS / "corner.svg"
@@ -31,14 +30,6 @@ PICTURE = DOCS / "corner.svg"
 WORKED = "wanda_mason"
 SIZES = (4, 8, 16, 32, 64)
 DECIMALS = 3
-
-LONGEST_GRID = 20_040_020
-UNITS = 2
-HUNDREDTH = 10 * sines.UNIT
-
-# What was promised while sines stood on a straight line between whole minutes.
-UNITS_BEFORE = 20
-PER_LEG_BEFORE = Fraction(55, 100)
 
 GENERATED = 400
 WALKS_OF_EACH_SIZE = 3
@@ -118,44 +109,6 @@ def worked() -> str:
          plain(corner.place.easting, 2), off(corner.off_east),
          decimal(corner.bound, 2) if corner.bound else "0")
         for name, corner in zip(example.stations, corners(example.fields), strict=True)
-    ])
-
-
-# What the bend gained
-
-
-def on_the_line(angle: int) -> int:
-    """The sine of an angle of the first quadrant by the straight line alone."""
-    minute, tenths = divmod(angle, sines.TENTHS_IN_MINUTE)
-    here, following = sines.table()[minute:minute + 2]
-    return here + nearest(Fraction((following - here) * tenths, sines.TENTHS_IN_MINUTE))
-
-
-def furthest(sine: Callable[[int], int]) -> Fraction:
-    """How far such a sine is off the exact one in the middle of any minute, at most."""
-    minutes = range(0, QUADRANT, sines.TENTHS_IN_MINUTE)
-    middles = (minute + sines.TENTHS_IN_MINUTE // 2 for minute in minutes)
-    return max(abs(sine(angle) - sines.UNIT * sines.exact_sine(angle)) for angle in middles)
-
-
-def gained() -> str:
-    """What was shown and promised by the straight line, and what is with the bend."""
-    legs = SIZES[-1]
-
-    def row(what: str, before: Fraction, after: Fraction, decimals: int) -> tuple[str, str, str]:
-        return what, plain(away(before, decimals), decimals), plain(away(after, decimals), decimals)
-
-    def of_corner(station: int) -> tuple[Fraction, Fraction]:
-        return PER_LEG_BEFORE * max(station, legs - station) + ONCE, bound(legs, station)
-
-    on_longest = (Fraction(units * LONGEST_GRID, HUNDREDTH) for units in (UNITS_BEFORE, UNITS))
-    return markdown(("", "straight line", "with the bend"), [
-        row("a sine in the middle of a minute is off by, at most, units", furthest(on_the_line), furthest(sines.sine), 2),
-        ("units promised of every sine", str(UNITS_BEFORE), str(UNITS)),
-        row("these on the longest leg, hundredths", *on_longest, 4),
-        row("promised of a leg, hundredths", PER_LEG_BEFORE, PER_LEG, 2),
-        row(f"of a corner next to an end of {legs} legs, hundredths", *of_corner(1), 2),
-        row(f"of a corner in the middle of {legs} legs, hundredths", *of_corner(legs // 2), 2),
     ])
 
 
@@ -290,7 +243,7 @@ def plot() -> str:
 
 
 MAKER = "second.corner"
-SECTIONS: Sections = {"table": table, "worked": worked, "gained": gained}
+SECTIONS: Sections = {"table": table, "worked": worked}
 
 
 def differences(page: str, picture: str) -> list[str]:
@@ -315,7 +268,7 @@ def write() -> None:
 
 
 def main(wanted: str) -> None:
-    """Print one of the four, or check or write the page."""
+    """Print one of the three, or check or write the page."""
     printed = {**SECTIONS, "plot": plot}
     if wanted in printed:
         sys.stdout.write(printed[wanted]())
@@ -324,7 +277,7 @@ def main(wanted: str) -> None:
     elif wanted == "write":
         write()
     else:
-        sys.exit("wanted: table, worked, gained, plot, check or write")
+        sys.exit("wanted: table, worked, plot, check or write")
 
 
 if __name__ == "__main__":

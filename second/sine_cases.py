@@ -8,7 +8,7 @@ from random import Random
 
 from . import documents
 from .bundle import line, number
-from .ranges import CIRCLE, HALF_CIRCLE, QUADRANT
+from .ranges import CIRCLE, QUADRANT
 from .sines import TENTHS_IN_MINUTE
 from .steps import cosine, sine
 
@@ -17,24 +17,12 @@ ANGLE_BYTES = 4
 MINUTES = 1_800
 HALF_MINUTES = 1_000
 REFUSED = 100
-BEYOND = (CIRCLE + 600, 2 * CIRCLE, 1 << 24, (1 << 31) - 1, 1 << 31, (1 << 32) - 1)
 SEED = 3
-
-# Of all angles of the first quadrant: those whose sine is furthest from the exact one, below it and
-# above, and those whose parts between two entries sum nearest to a half, below it and above.
-FURTHEST = (1_607_435, 1_960_204)
-NEAREST_A_HALF = (2_036_084, 684_107, 205_429, 1_034_990, 2_819_648, 1_408_348, 3_232_668, 138_751)
 
 
 def about(angle: int, most: int) -> list[int]:
     """An angle and its neighbours on both sides."""
     return list(range(angle - most, angle + most + 1))
-
-
-def of_sine(folded: int) -> list[int]:
-    """The angles of the circle whose sine has the size of this one's, a quadrant each."""
-    half = HALF_CIRCLE
-    return [angle % CIRCLE for angle in (folded, half - folded, half + folded, -folded)]
 
 
 def of_the_documents() -> list[int]:
@@ -45,16 +33,15 @@ def of_the_documents() -> list[int]:
 
 def cases() -> list[int]:
     """The octants with neighbours, refused angles, whole minutes with neighbours, half minutes,
-    where the bend is largest, the furthest off and the nearest to a half in all quadrants, those of
-    the documents, and any others up to ten thousand."""
+    where the part to add is a half, those of the documents, and any others up to ten thousand."""
     chance = Random(SEED)
     octants = [angle for i in range(9) for angle in about(i * QUADRANT // 2, 2) if angle >= 0]
-    beyond = [*BEYOND, *(chance.randrange(CIRCLE, 1 << 32) for _ in range(REFUSED - len(BEYOND)))]
+    beyond = [CIRCLE + 600, 2 * CIRCLE, 1 << 24, (1 << 31) - 1, 1 << 31, (1 << 32) - 1]
+    beyond += [chance.randrange(CIRCLE, 1 << 32) for _ in range(REFUSED - len(beyond))]
     minutes = chance.sample(range(1, CIRCLE // TENTHS_IN_MINUTE), MINUTES)
     whole = [angle for minute in minutes for angle in about(TENTHS_IN_MINUTE * minute, 1)]
     half = [TENTHS_IN_MINUTE * minute + TENTHS_IN_MINUTE // 2 for minute in minutes[:HALF_MINUTES]]
-    edges = [angle for folded in (*FURTHEST, *NEAREST_A_HALF) for angle in of_sine(folded)]
-    chosen = [*octants, *beyond, *whole, *half, *edges, *of_the_documents()]
+    chosen = [*octants, *beyond, *whole, *half, *of_the_documents()]
     return chosen + [chance.randrange(CIRCLE) for _ in range(ANGLES - len(chosen))]
 
 

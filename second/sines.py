@@ -6,7 +6,6 @@ off first. Refusing an angle past the circle is the business of the steps.
 
 from fractions import Fraction
 from functools import lru_cache
-from typing import Sequence
 
 from .ranges import CIRCLE, HALF_CIRCLE, QUADRANT
 from .rounding import nearest
@@ -16,7 +15,6 @@ OCTANT = QUADRANT // 2
 TENTHS_IN_MINUTE = 600
 LAST_MINUTE = QUADRANT // TENTHS_IN_MINUTE
 UNIT = 10**9
-BEND = Fraction(84_616, 720_000_000_000_000_000)
 
 
 def radians(angle: int) -> Fraction:
@@ -49,14 +47,9 @@ def cosine_series(x: Fraction) -> Fraction:
 
 
 def fold(angle: int) -> tuple[int, int]:
-    """The sign, and the angle of the first quadrant with a sine of that size.
-
-    Just at 180 degrees the sign is still plus: a lent list may have any entry at 0.
-    """
-    angle %= CIRCLE
-    if angle > HALF_CIRCLE:
-        return -1, min(angle - HALF_CIRCLE, CIRCLE - angle)
-    return 1, min(angle, HALF_CIRCLE - angle)
+    """The sign, and the angle of the first quadrant with a sine of that size."""
+    half_turns, angle = divmod(angle % CIRCLE, HALF_CIRCLE)
+    return -1 if half_turns else 1, min(angle, HALF_CIRCLE - angle)
 
 
 def exact_sine(angle: int) -> Fraction:
@@ -72,62 +65,31 @@ def exact_cosine(angle: int) -> Fraction:
     return exact_sine(angle + QUADRANT)
 
 
+@lru_cache(maxsize=None)
 def entry(minute: int) -> int:
     """The table's sine of a whole minute, 0 to 5,400, in the ninth decimal."""
     return nearest(UNIT * exact_sine(TENTHS_IN_MINUTE * minute))
 
 
-@lru_cache(maxsize=None)
 def table() -> tuple[int, ...]:
     """All 5,401 entries, from 0 to 90 degrees."""
     return tuple(entry(minute) for minute in range(LAST_MINUTE + 1))
 
 
-def counted(lent: int) -> int:
-    """What an entry of a lent list counts as: no more than 1."""
-    return min(lent, UNIT)
-
-
-def parts(here: int, following: int, tenths: int) -> Fraction:
-    """What an entry lacks so many tenths past its minute: the straight line to the
-    following entry, and the bend of the curve above that line."""
-    straight = Fraction((following - here) * tenths, TENTHS_IN_MINUTE)
-    bend = BEND * here * tenths * (TENTHS_IN_MINUTE - tenths)
-    return straight + bend
-
-
-def between(here: int, following: int, tenths: int) -> int:
-    """The sine so many tenths past a minute, by its entry and the following one.
-
-    Both parts are summed exactly and rounded once, before the entry is added.
-    """
-    return here + nearest(parts(here, following, tenths))
-
-
-def sine_in(entries: Sequence[int], angle: int) -> int:
-    """The sine of any angle by a lent list of 5,401 entries, whatever they are.
+def sine(angle: int) -> int:
+    """The table's sine of any angle, in units of the ninth decimal.
 
     The angle is folded first and interpolated then, so that the sizes of sines
     agree in all four quadrants even where the part to add is just a half.
     """
     sign, folded = fold(angle)
     minute, tenths = divmod(folded, TENTHS_IN_MINUTE)
-    here = counted(entries[minute])
     if tenths == 0:
-        return sign * here
-    return sign * between(here, counted(entries[minute + 1]), tenths)
-
-
-def cosine_in(entries: Sequence[int], angle: int) -> int:
-    """The cosine by a lent list: its sine a quarter turn further on."""
-    return sine_in(entries, angle + QUADRANT)
-
-
-def sine(angle: int) -> int:
-    """The table's sine of any angle, in units of the ninth decimal."""
-    return sine_in(table(), angle)
+        return sign * entry(minute)
+    rise = entry(minute + 1) - entry(minute)
+    return sign * (entry(minute) + nearest(Fraction(rise * tenths, TENTHS_IN_MINUTE)))
 
 
 def cosine(angle: int) -> int:
-    """The table's cosine of any angle."""
-    return cosine_in(table(), angle)
+    """The table's cosine: its sine a quarter turn further on."""
+    return sine(angle + QUADRANT)

@@ -5,24 +5,21 @@ four of an angle; before the words of the doubled area their count, one byte). A
 answered by number, place and value.
 """
 
-from fractions import Fraction
 from itertools import islice, product
 from math import gcd, isqrt
 from random import Random
 from typing import Callable, Iterable, Iterator, NamedTuple
 
-from . import documents, sines, steps
+from . import documents, steps
 from .bundle import line, number
 from .ranges import (
     ANGLE, CIRCLE, COMBINED, DISTANCE, ELEVATION, FACTOR, GRID_DISTANCE, LEGS, MISCLOSURE, OFFSET,
     PASSED_CLOSURE, QUADRANT, TESTED_CLOSURE, TOTAL, Range,
 )
-from .rounding import nearest
 from .steps import FACTOR_ONE
 
 SEED = 4
 INSIDE = 3
-BENT = 10
 AREA = 15
 
 # What an argument's word can hold: signed or not, of 64 bits or of 32.
@@ -180,31 +177,6 @@ def about_the_limits(chance: Random) -> Iterator[Call]:
             yield from (Call(14, (0, -size, total + more)) for more in (-1, 0, 1))
 
 
-def without_its_bend(angle: int) -> int:
-    """The sine as a straight line between two entries would give it."""
-    sign, folded = sines.fold(angle)
-    minute, tenths = divmod(folded, sines.TENTHS_IN_MINUTE)
-    here, following = (sines.table()[min(entry, sines.LAST_MINUTE)] for entry in (minute, minute + 1))
-    return sign * (here + nearest(Fraction((following - here) * tenths, sines.TENTHS_IN_MINUTE)))
-
-
-def moved_by_the_bend(distance: int, angle: int) -> bool:
-    """Whether the bend of the angle's sine moves a leg by a hundredth."""
-    return steps.along(distance, sines.sine(angle)) != steps.along(distance, without_its_bend(angle))
-
-
-def bent(chance: Random) -> Iterator[Call]:
-    """Latitudes and departures in all quadrants that the bend of their sine moves by a hundredth."""
-    further = {11: QUADRANT, 12: 0, 16: QUADRANT, 17: 0}
-    for number, quadrant, _ in product(further, range(4), range(BENT)):
-        moved = False
-        while not moved:
-            distance = chance.randint(GRID_DISTANCE.high // 2, GRID_DISTANCE.high)
-            azimuth = QUADRANT * quadrant + chance.randrange(QUADRANT)
-            moved = moved_by_the_bend(distance, azimuth + further[number])
-        yield Call(number, (distance, azimuth))
-
-
 def areas(chance: Random) -> Iterator[Call]:
     """Words of every count about the limits; offsets of any size, at their bound and one beyond it."""
     for words in (0, 1, 2, 3, 4, 5, 6, 7, 8, 32, 126, 127, 128, 129, 130, 255):
@@ -258,7 +230,6 @@ def cases() -> list[Call]:
         *combined_factors(),
         *about_the_limits(chance),
         *areas(chance),
-        *bent(chance),
         *of_the_documents(),
     ]
 

@@ -68,22 +68,12 @@ def grid_distance(distance: int, combined: int) -> Answer:
 
 def sine(angle: int) -> Answer:
     """The table's sine, in units of the ninth decimal."""
-    return sine_in(sines.table(), angle)
+    return answered(sines.sine(angle)) if ANGLE.holds(angle) else REFUSED
 
 
 def cosine(angle: int) -> Answer:
     """The table's cosine, in units of the ninth decimal."""
-    return cosine_in(sines.table(), angle)
-
-
-def sine_in(entries: Sequence[int], angle: int) -> Answer:
-    """The sine by a lent list."""
-    return answered(sines.sine_in(entries, angle)) if ANGLE.holds(angle) else REFUSED
-
-
-def cosine_in(entries: Sequence[int], angle: int) -> Answer:
-    """The cosine by a lent list."""
-    return answered(sines.cosine_in(entries, angle)) if ANGLE.holds(angle) else REFUSED
+    return answered(sines.cosine(angle)) if ANGLE.holds(angle) else REFUSED
 
 
 # Azimuths

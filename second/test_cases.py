@@ -7,7 +7,6 @@ from pathlib import Path
 
 from second.cases import SUBJECTS, bundle
 from second.desk_cases import Case
-from second.lent_cases import Case as Lent
 from second.step_cases import Call
 
 ROOT = Path(__file__).resolve().parent.parent
@@ -24,12 +23,10 @@ class Cases(unittest.TestCase):
         self.assertEqual(bundle("D", [Case(b"")]), b"D\x82\x10\x00\x00\x00")
         self.assertEqual(bundle("S", [Call(6, (1, 2))]), b"S\x06\x00\x00\x00\x01\x00\x00\x00\x02")
         self.assertEqual(bundle("A", [258]), b"A\x00\x00\x01\x02")
-        entries = b"\x00\x00\x00\x02\x00\x00\x00\x03"
-        self.assertEqual(bundle("L", [Lent(1, 2, 3, 258)]), b"L\x00\x01" + entries + b"\x00\x00\x01\x02")
 
     def test_how_many(self):
         counts = {letter: len(list(subject.cases())) for letter, subject in SUBJECTS.items()}
-        self.assertEqual(counts, {"T": 1_428, "N": 1_994, "D": 2_855, "S": 10_859, "A": 10_000, "L": 3_000})
+        self.assertEqual(counts, {"T": 1_428, "N": 1_994, "D": 2_854, "S": 10_699, "A": 10_000})
 
     def test_program_writes_the_bundle(self):
         wanted = b"".join(bundle(letter, subject.cases()) for letter, subject in SUBJECTS.items())

@@ -1,20 +1,17 @@
 """The examples: each tape is what its notes say, each sheet what its tape gives."""
 
 import unittest
-from fractions import Fraction
 from unittest import mock
 
-from second import sines, steps
-from second.corner import on_the_line
-from second.desk import LEAST_WORDS, balanced_azimuths, combined_factor, grid_distances, traverse
+from second import steps
+from second.desk import LEAST_WORDS, combined_factor, traverse
 from second.documents import load
 from second.notes import tape_of
-from second.rounding import nearest
 from second.sheet import printed
 from second.tape import read_tape, write_tape
 from second.tapes import EXAMPLES, printed_fields
 
-NAMES = ("yard", "wanda_mason", "hill_yard", "long_sights", "refused")
+NAMES = ("yard", "wanda_mason", "hill_yard", "refused")
 
 
 def file_bytes(name: str, kind: str) -> bytes:
@@ -52,21 +49,6 @@ class Examples(unittest.TestCase):
             others = traverse(tape, LEAST_WORDS).coordinates
         moved = [(two[0] - one[0], two[1] - one[1]) for one, two in zip(corners, others)]
         self.assertEqual(moved, [(0, 0), (0, 0), (0, 1), (0, 1), (0, 1), (0, 0)])
-
-    def test_by_a_straight_line_all_corners_of_the_long_sights_would_stand_a_hundredth_west(self) -> None:
-        tape = file_bytes("long_sights", "tape")
-        corners = traverse(tape, LEAST_WORDS).coordinates
-        with mock.patch.object(sines, "BEND", Fraction(0)):
-            others = traverse(tape, LEAST_WORDS).coordinates
-        moved = [(two[0] - one[0], two[1] - one[1]) for one, two in zip(corners, others)]
-        self.assertEqual(moved, [(0, 0), *4 * [(0, -1)], (0, 0)])
-
-    def test_the_departure_of_the_first_long_sight_is_near_a_half(self) -> None:
-        fields = read_tape(file_bytes("long_sights", "tape")).fields
-        distance, azimuth = grid_distances(fields)[0], balanced_azimuths(fields)[0]
-        self.assertEqual(-sines.sine(azimuth) - on_the_line(sines.fold(azimuth)[1]), 10)
-        thousandths = -distance * sines.exact_sine(azimuth)
-        self.assertEqual(nearest(thousandths * 10), 165_651_251)
 
     def test_the_refused_one_is_refused_for_its_angle(self) -> None:
         self.assertEqual(file_bytes("refused", "sheet"), b"REFUSED 8\n")

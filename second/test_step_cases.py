@@ -1,10 +1,8 @@
 """The calls that another program's arithmetic steps are compared over."""
 
 import unittest
-from random import Random
 
-from second import documents, step_cases, steps
-from second.ranges import QUADRANT
+from second import documents, step_cases
 from second.step_cases import AREA, STEPS, Call
 
 
@@ -47,21 +45,6 @@ class Cases(unittest.TestCase):
         self.assertEqual([over.count(4_999_999 + more) for more in range(3)], [5, 6, 5])
         self.assertEqual(step_cases.expected(Call(2, (9_996_653, 10_001_989))), "0 0 9998641\n")
         self.assertIn(Call(2, (9_996_653, 10_001_989)), calls)
-
-    def test_sines_without_their_bend(self):
-        angles = (0, 273 + 2 * 600, 300, QUADRANT - 300, QUADRANT, QUADRANT + 300, 3 * QUADRANT)
-        lines = [0, 714_130, 145_444, 999_999_979, 1_000_000_000, 999_999_979, -1_000_000_000]
-        self.assertEqual(list(map(step_cases.without_its_bend, angles)), lines)
-
-    def test_legs_that_the_bend_moves(self):
-        calls = list(step_cases.bent(Random(step_cases.SEED)))
-        for number, further in ((11, QUADRANT), (12, 0), (16, QUADRANT), (17, 0)):
-            legs = [call.arguments for call in calls if call.step == number]
-            self.assertEqual([azimuth // QUADRANT for _, azimuth in legs], [i // 10 for i in range(40)])
-            for distance, azimuth in legs:
-                line = steps.along(distance, step_cases.without_its_bend(azimuth + further))
-                moved = steps.latitude if further else steps.departure
-                self.assertEqual(abs(moved(distance, azimuth).value - line), 1)
 
     def test_packed(self):
         packed = step_cases.packed

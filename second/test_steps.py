@@ -63,17 +63,6 @@ class Distances(unittest.TestCase):
         self.assertEqual(steps.grid_distance(1_000_000, 10_000_000), (0, 0, 1_000_000))
 
 
-class Sines(unittest.TestCase):
-    def test_by_a_lent_list(self):
-        entries = [0, 5, *[7] * 5_399]
-        self.assertEqual(steps.sine_in(entries, 600), (0, 0, 5))
-        self.assertEqual(steps.cosine_in(entries, 180 * DEGREE), (0, 0, -7))
-
-    def test_an_angle_past_the_circle_is_refused_before_the_list_is_read(self):
-        for step in (steps.sine_in, steps.cosine_in):
-            self.assertEqual(step([], 12_960_000), REFUSED)
-
-
 class Azimuths(unittest.TestCase):
     def test_first_and_next(self):
         self.assertEqual(steps.first_azimuth(350 * DEGREE, 20 * DEGREE).value, 10 * DEGREE)

@@ -4,7 +4,6 @@ import json
 import math
 import re
 import unittest
-from fractions import Fraction
 from typing import Callable, Union
 
 from second import blunder, steps
@@ -14,7 +13,6 @@ from second.page import DOCS, read
 from second.ranges import CIRCLE
 from second.sheet import printed
 from second.tape import Close, Leg, read_tape, write_tape
-from second.unrounded import ONCE, PER_LEG
 
 SURVEYOR = read(DOCS / "SURVEYOR.md")
 REFUSALS = read(DOCS / "REFUSALS.md")
@@ -131,7 +129,7 @@ class Surveyor(unittest.TestCase):
     def test_the_figures_of_the_bound(self) -> None:
         legs, feet = re.findall(r"^\| (?:m|feet) \| (.*) \|$", SURVEYOR, re.M)
         for m, bound in zip(legs.split(" | "), feet.split(" | "), strict=True):
-            self.assertEqual(Fraction(bound), (PER_LEG * int(m) + ONCE) / 100)
+            self.assertEqual(f"{55 * int(m) + 50}", bound.replace("0.", "").lstrip("0"))
 
 
 class Refusals(unittest.TestCase):

@@ -12,13 +12,13 @@ from second.unrounded import bound, unrounded
 class Bound(unittest.TestCase):
     def test_more_legs_on_one_side_count(self):
         half = Fraction(1, 2)
-        expected = [0, Fraction(153, 100) + half, Fraction(102, 100) + half, Fraction(153, 100) + half, 0]
+        expected = [0, Fraction(165, 100) + half, Fraction(110, 100) + half, Fraction(165, 100) + half, 0]
         self.assertEqual([bound(4, station) for station in range(5)], expected)
 
     def test_sixty_four_legs(self):
         self.assertEqual(bound(64, 1), bound(64, 63))
-        self.assertEqual(bound(64, 1), Fraction(3_263, 100))
-        self.assertEqual(bound(64, 32), Fraction(1_682, 100))
+        self.assertEqual(bound(64, 1), Fraction(3_515, 100))
+        self.assertEqual(bound(64, 32), Fraction(1_810, 100))
 
 
 class Corners(unittest.TestCase):

@@ -13,7 +13,7 @@ from . import desk
 from .sines import exact_cosine, exact_sine
 from .tape import Fields
 
-PER_LEG = Fraction(51, 100)
+PER_LEG = Fraction(55, 100)
 ONCE = Fraction(1, 2)
 THOUSANDTHS_IN_HUNDREDTH = 10
 

@@ -2,7 +2,7 @@
  *
  *     face_cases < crates/cases/stdin
  *
- * prints what `python3 -m second.cases expected T D S A L` prints; the field notes, N, are passed over, since the face has no function for them.
+ * prints what `python3 -m second.cases expected T D S A` prints; the field notes, N, are passed over, since the face has no function for them.
  * Two promises of the face that no expected line would show are tested here: a traverse and a sheet by the desk's own table, lent, are those
  * without it, and the records of a tape that reads, written one by one, are that tape again. A case that breaks one ends the program with a
  * message and 1. At the end, on standard error: how many cases were answered, and how many tapes were written again. */
@@ -279,22 +279,6 @@ static void answer_angle(uint32_t angle) {
     tell_amount(vas_cosine_in(sines, angle, &values[3]), &values[3]);
 }
 
-/* ---- L, a lent list that is zero but in two minutes, and an angle */
-
-static void answer_lent(struct bytes *rest) {
-    static uint32_t list[VAS_TABLE];
-    uint64_t minute = take_number(rest, 2);
-    if (minute >= VAS_TABLE - 1)
-        fail("a minute that none follows");
-    list[minute] = take_number(rest, 4);
-    list[minute + 1] = take_number(rest, 4);
-    uint32_t angle = take_number(rest, 4);
-    int64_t values[2] = {UNTOLD, UNTOLD};
-    tell_amount(vas_sine_in(list, angle, &values[0]), &values[0]);
-    tell_amount(vas_cosine_in(list, angle, &values[1]), &values[1]);
-    list[minute] = list[minute + 1] = 0;
-}
-
 /* ---- the bundle */
 
 static void answer_case(struct bytes *rest) {
@@ -308,7 +292,6 @@ static void answer_case(struct bytes *rest) {
     case 'D': answer_desk(rest); break;
     case 'S': answer_call(rest); break;
     case 'A': answer_angle(take_number(rest, 4)); break;
-    case 'L': answer_lent(rest); break;
     default: fail("its letter is no subject's");
     }
     cases++;

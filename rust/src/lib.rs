@@ -182,12 +182,12 @@ impl fmt::Debug for Table {
     }
 }
 
-/// The sine of an angle, within 2 units of the rules' exact one.
+/// The sine of an angle.
 pub fn sine(angle: u32) -> Result<i64, Refusal> {
     valued(|value| sys::vas_sine(angle, value))
 }
 
-/// The cosine of an angle, within 2 units of the rules' exact one.
+/// The cosine of an angle.
 pub fn cosine(angle: u32) -> Result<i64, Refusal> {
     valued(|value| sys::vas_cosine(angle, value))
 }

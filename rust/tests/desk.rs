@@ -94,7 +94,6 @@ fn sines() {
     assert_eq!(sine(MINUTE), Ok(290_888));
     assert_eq!(sine(1), Ok(485));
     assert_eq!(sine(300), Ok(145_444));
-    assert_eq!(sine(85 * DEGREE + MINUTE / 2), Ok(996_207_364));
     assert_eq!(sine(270 * DEGREE), Ok(-1_000_000_000));
     assert_eq!(cosine(60 * DEGREE), Ok(500_000_000));
     assert_eq!(cosine(180 * DEGREE), Ok(-1_000_000_000));

@@ -5,7 +5,6 @@ mod angles;
 mod calls;
 mod field_notes;
 mod input;
-mod lent;
 mod output;
 mod reading;
 mod traverses;
@@ -18,7 +17,6 @@ fn one_case() -> bool {
         b'D' => traverses::answer(),
         b'S' => calls::answer(),
         b'A' => angles::answer(),
-        b'L' => lent::answer(),
         _ => {
             return false;
         }

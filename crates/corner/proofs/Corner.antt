@@ -1,5 +1,5 @@
 -- Demand 3, of what `traverse` writes: where the answer's number is 0, every word of a station
--- stands within 0.51 hundredths for each leg on the station's longer side, and half a hundredth, of
+-- stands within 0.55 hundredths for each leg on the station's longer side, and half a hundredth, of
 -- the unrounded place; and at both ends it is the fixed one.
 use Prim.Native.Nat.{ℕ, ◌-◌, ◌*◌, ◌≤◌, ◌<◌}
 use native.Mathlib.Omega.{arith}

@@ -1,4 +1,4 @@
--- A leg's latitude or departure stands within 0.51 hundredths of the exact one: its own rounding
+-- A leg's latitude or departure stands within 0.55 hundredths of the exact one: its own rounding
 -- takes at most half a hundredth, and the sine's units on the longest grid distance take the rest.
 use Prim.Native.Nat.{ℕ, ◌+◌, ◌*◌, ◌≤◌, ◌<◌}
 use native.Mathlib.Omega.{arith}
@@ -21,7 +21,7 @@ use Rattle.corner.specs.Unrounded.{exact_along, fine, exact_move, per_leg}
 abbrev pub longest : ℕ
 longest = 20040020
 
--- half a hundredth for the rounding, and for the sine its units on the longest distance: 0.51 is
+-- half a hundredth for the rounding, and for the sine its units on the longest distance: 0.55 is
 -- enough
 enough : 100 * (5000000000 + longest * units) ≤ per_leg * 10000000000
 enough = omega arith

@@ -1,5 +1,5 @@
 -- A witness: demand 3 applied to the tape whose sheet is printed whole. Station 2 stands at
--- 51000.01 north, 2001000.01 east, with two legs on either side: its bound is 1.52 hundredths.
+-- 51000.01 north, 2001000.01 east, with two legs on either side of it: its bound is 1.6 hundredths.
 use Prim.Native.Nat.{ℕ}
 use native.Mathlib.Omega.{arith}
 use mathlib.Core.Path.{◌≡◌, refl, sym, ◌∙◌, ap, subst}
@@ -54,11 +54,11 @@ station_2 axis =
     (corner (tape_of records) (replicate 130 (pos 0)) words adjusted (sym printed_told)
     (sym (printed_words (pos 0))) refl axis 2 (omega (arith, four)))
 
--- 152 hundredths of a hundredth: 51 for each of two legs, and 50
-pub printed_north : StandsWithin 152 (pos 5100001) (unrounded_at north yard 2)
+-- 160 hundredths of a hundredth: 55 for each of two legs, and 50
+pub printed_north : StandsWithin 160 (pos 5100001) (unrounded_at north yard 2)
 unfolding words
 printed_north = station_2 north
 
-pub printed_east : StandsWithin 152 (pos 200100001) (unrounded_at east yard 2)
+pub printed_east : StandsWithin 160 (pos 200100001) (unrounded_at east yard 2)
 unfolding words
 printed_east = station_2 east

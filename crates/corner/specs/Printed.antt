@@ -1,5 +1,5 @@
 -- docs/RULES.md, "The three demands": the third, of the printed sheet. "The sheet's northing
--- differs from that one by at most 0.51 hundredths for each leg .. plus half a hundredth. So does
+-- differs from that one by at most 0.55 hundredths for each leg .. plus half a hundredth. So does
 -- its easting", said of what a reader of the bytes finds in the line of a station.
 use Rattle.std.specs.Prelude.{ℕ, ◌+◌, ◌≡◌, cond, List, [], ◌∷◌, ◌++◌, eqb, pos}
 use Rattle.steps.specs.Course.{Axis, north, east}

@@ -55,9 +55,9 @@ pub record StandsWithin (p : ℕ) (z : ℤ) (x : Fraction) : Type 0 where
 abbrev pub longer_side : ℕ → ℕ → ℕ
 longer_side legs k = max k (legs - k)
 
--- "at most 0.51 hundredths for each leg" there "plus half a hundredth"
+-- "at most 0.55 hundredths for each leg" there "plus half a hundredth"
 abbrev pub per_leg : ℕ
-per_leg = 51
+per_leg = 55
 
 abbrev pub half : ℕ
 half = 50

@@ -17,7 +17,7 @@ use Rattle.answer.specs.Told.{told_count}
 use Rattle.answer.proofs.Telling.{value_given, both, inside_yes}
 use Rattle.minutes.specs.Quadrant.{circle}
 use Rattle.steps.specs.Course.{told_move, Axis, north, east, sine_along, move, course, course_step}
-use Rattle.sines.specs.Sine.{entry_in, most_sine}
+use Rattle.sines.specs.Sine.{entry_in}
 use Rattle.steps.specs.declared.course.Moves.{Moves}
 use Rattle.sines.proofs.Own.{lent_entries, Entries}
 use Rattle.steps.specs.Distance.{grid, grid_step}
@@ -51,7 +51,7 @@ module _ (distance factor : ℕ) (near : distance ≤ 20000000) (most : factor �
 
 -- ---- the latitude or departure of a leg, by the entries of any table
 module _ (e : ℕ → ℤ) (entries : Entries e) where
-  course_most : (axis : Axis) (distance azimuth : ℕ) → distance ≤ 20040020 → azimuth < circle
+  course_most : (axis : Axis) (distance azimuth : ℕ) → distance ≤ 20100000 → azimuth < circle
       → nat_abs (course e axis distance azimuth) ≤ 2010000
   unfolding move
   course_most axis distance azimuth near turned =
@@ -60,7 +60,7 @@ module _ (e : ℕ → ℤ) (entries : Entries e) where
       (rw (abs_neg (s *ℤ pos distance), abs_mul s (pos distance))
       (omega (
         arith,
-        product_most (nat_abs s) distance most_sine 20040020
+        product_most (nat_abs s) distance 1000000000 20100000
             (along_most e entries axis azimuth turned) near,
       )))
 
@@ -71,7 +71,7 @@ pub course_small : (table : List ℕ) (axis : Axis) (distance azimuth : ℕ) (m 
     → Slight (told_move axis m).value
 course_small table axis distance azimuth m near turned g =
     rw (move_given (entry_in table) axis distance azimuth m (omega arith) turned g)
-    (course_most (entry_in table) (lent_entries table) axis distance azimuth near turned)
+    (course_most (entry_in table) (lent_entries table) axis distance azimuth (omega arith) turned)
 
 pub slight_fits : (v z : ℤ) → v ≡ z → Slight z → nat_abs v < 2 ^ 62
 slight_fits v z e h = rw e (omega arith)

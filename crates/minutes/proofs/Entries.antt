@@ -24,7 +24,7 @@ unfolding is
 is_so (pos n) x t = ap pos (sym (eqb→eq n x t))
 is_so (negsuc n) x t = absurd t
 
--- x is the entry of minute k, and no entry is above 1
+-- x is the entry of minute k, and no sine is above 1
 right : ℕ → ℕ → Bool
 right k x = is (entry k) x && leb x 1000000000
 

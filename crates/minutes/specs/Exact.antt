@@ -54,7 +54,7 @@ exact_sine a = around exact_quarter a
 abbrev pub exact_cosine : ℕ → ℤ
 exact_cosine a = exact_sine (quarter_ahead a)
 
--- 1 in units of the ninth decimal: "the nine-decimal sine" of 90 degrees, and no entry is above it
+-- 1 in units of the ninth decimal: "the nine-decimal sine" of 90 degrees, and no sine is above it
 abbrev pub nine_decimals : ℕ
 nine_decimals = 1000000000
 

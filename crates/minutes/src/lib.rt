@@ -8,7 +8,7 @@ ghost use Rattle.minutes.specs.Entry.{Table};
 mod constant;
 pub mod quadrant;
 
-// 1 in units of the ninth decimal: the sine of 90 degrees, and no entry is above it.
+// 1 in units of the ninth decimal: the sine of 90 degrees, and no sine is above it.
 pub const NINE_DECIMALS: u32 = 1_000_000_000;
 
 // The minute of 90 degrees: "every whole minute from 0 to 90 degrees".

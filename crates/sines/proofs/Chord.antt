@@ -1,7 +1,6 @@
 -- A power against its chord. With r + s the width of the interval, the chord of x ^ k at r lies
--- above the power, by at least r s times half the second derivative at any place before the
--- interval, and by no more than at any place after it. By induction on k, on plain numbers. Assumes
--- nothing.
+-- above the power, and by no more than r s times half the second derivative at the interval's end.
+-- By induction on k, on plain numbers. Assumes nothing.
 use Prim.Native.Nat.{ℕ, zero, suc, ◌+◌, ◌*◌, ◌^◌, ◌≤◌}
 use native.Mathlib.Nat.{mul-add, add-mul, mul_assoc, mul_comm, mul_left_comm, add_assoc, add_comm}
 use native.Mathlib.Nat.{add_left_comm, le_trans, mul-le-mul_left, mul-le-mul_right, pow-le-pow_left}
@@ -39,45 +38,22 @@ rise A x h f (suc k) =
     (rise_step A x h (x ^ k) ((x + h) ^ k) (slope A k) (A ^ k) f
     (pow-le-pow_left (le_trans (le-add_right x h) f) k) (rise A x h f k))
 
--- and from A on by at least as much
-rise_least : (A x h : ℕ) → A ≤ x → (k : ℕ) → x ^ k + h * slope A k ≤ (x + h) ^ k
-unfolding slope
-rise_least A x h f zero = rw (pow-zero, pow-zero) (omega arith)
-rise_least A x h f (suc k) =
-    rw (pow-succ' (x + h) k, pow-succ' x k)
-    (step (x ^ k) ((x + h) ^ k) (slope A k) (A ^ k) (pow-le-pow_left f k) (rise_least A x h f k))
-  where
-    step : (p q l a : ℕ) → a ≤ p → p + h * l ≤ q → x * p + h * (A * l + a) ≤ (x + h) * q
-    step p q l a pa i =
-        let one : (x + h) * (p + h * l) ≤ (x + h) * q = mul-le-mul_left (x + h) i in
-        let two : A * (h * l) ≤ x * (h * l) = mul-le-mul_right (h * l) f in
-        let three : h * a ≤ h * p = mul-le-mul_left h pa in
-        omega arith
+-- ---- the chord lies above
+above_step : (x r s p q u : ℕ) → p ≤ u → (r + s) * q ≤ s * p + r * u
+    → (r + s) * ((x + r) * q) ≤ s * (x * p) + r * ((x + (r + s)) * u)
+above_step x r s p q u pu i =
+    let one : (x + r) * ((r + s) * q) ≤ (x + r) * (s * p + r * u) = mul-le-mul_left (x + r) i in
+    let two : r * s * p ≤ r * s * u = mul-le-mul_left (r * s) pu in
+    omega arith
 
--- ---- the chord lies above by at least the curve before
-above_step : (A x r s p q u l b : ℕ) → A ≤ x → p + (r + s) * l ≤ u
-    → (r + s) * q + (r + s) * r * s * b ≤ s * p + r * u
-    → (r + s) * ((x + r) * q) + (r + s) * r * s * (A * b + l) ≤ s * (x * p) + r *
-    ((x + (r + s)) * u)
-above_step A x r s p q u l b f pu i =
-    let one : (x + r) * ((r + s) * q + (r + s) * r * s * b) ≤ (x + r) * (s * p + r * u) =
-    mul-le-mul_left (x + r) i in
-    let two : r * s * (p + (r + s) * l) ≤ r * s * u = mul-le-mul_left (r * s) pu in
-    let three : A * ((r + s) * r * s * b) ≤ x * ((r + s) * r * s * b) =
-    mul-le-mul_right ((r + s) * r * s * b) f in
-    simp products (omega
-    (arith, simp products at one, simp products at two, simp products at three))
-
-pub above : (A x r s : ℕ) → A ≤ x → (k : ℕ)
-    → (r + s) * (x + r) ^ k + (r + s) * r * s * curve A k ≤ s * x ^ k + r * (x + (r + s)) ^ k
-unfolding curve
-above A x r s f zero = rw (pow-zero, pow-zero, pow-zero) (omega arith)
-above A x r s f (suc k) =
+pub above : (x r s k : ℕ) → (r + s) * (x + r) ^ k ≤ s * x ^ k + r * (x + (r + s)) ^ k
+above x r s zero = rw (pow-zero, pow-zero, pow-zero) (omega arith)
+above x r s (suc k) =
     rw (pow-succ' (x + r) k, pow-succ' x k, pow-succ' (x + (r + s)) k)
-    (above_step A x r s (x ^ k) ((x + r) ^ k) ((x + (r + s)) ^ k) (slope A k) (curve A k) f
-    (rise_least A x (r + s) f k) (above A x r s f k))
+    (above_step x r s (x ^ k) ((x + r) ^ k) ((x + (r + s)) ^ k)
+    (pow-le-pow_left (le-add_right x (r + s)) k) (above x r s k))
 
--- ---- and by no more than the curve after
+-- ---- and by no more than the curve
 below_step : (A x r s p q u l b : ℕ) → x + (r + s) ≤ A → u ≤ p + (r + s) * l
     → s * p + r * u ≤ (r + s) * q + (r + s) * r * s * b
     → s * (x * p) + r * ((x + (r + s)) * u) ≤ (r + s) * ((x + r) * q) + (r + s) * r * s *

@@ -1,6 +1,6 @@
 -- The entries of a table: each is a natural number of at most a billion, so that no sine is above
--- `most_sine`, in the rules' table and in any that is lent; and the desk's own table, lent, has the
--- rules' entries.
+-- 1, in the rules' table and in any that is lent; and the desk's own table, lent, has the rules'
+-- entries.
 use mathlib.Core.Path.{◌≡◌, refl, sym, ◌∙◌, ap, fun_ext}
 use mathlib.Core.List.{List}
 use Prim.Native.Nat.{ℕ, ◌+◌, ◌*◌, ◌/◌, ◌%◌, ◌≤◌, ◌<◌, min}
@@ -17,7 +17,6 @@ use Rattle.minutes.specs.Entry.{Table, entry, last_minute}
 use Rattle.minutes.specs.Exact.{nine_decimals}
 use Rattle.minutes.proofs.Entries.{entry_is}
 use Rattle.sines.specs.Sine.{between, quarter_by, entry_in, sine_by, cosine_by, of_angle}
-use Rattle.sines.specs.Sine.{most_sine}
 use Rattle.sines.proofs.Line.{at_minute, from_minute, between_most}
 use Rattle.sines.proofs.Quadrants.{folded_most, size_is}
 
@@ -86,9 +85,9 @@ module _ (t : List ℕ) (right : Table t) (a : ℕ) (r : Amount) where
       → told_amount r ≡ of_angle a (cosine_by entry a)
   own_cosine g = g ∙ ap (λ (e : ℕ → ℤ). of_angle a (cosine_by e a)) (own_entries t right)
 
--- ---- no sine is above `most_sine`
+-- ---- no sine is above 1
 module _ (e : ℕ → ℤ) (entries : Entries e) where
-  pub quarter_size : (a : ℕ) → a ≤ 3240000 → (n : ℕ) × (quarter_by e a ≡ pos n) × (n ≤ most_sine)
+  pub quarter_size : (a : ℕ) → a ≤ 3240000 → (n : ℕ) × (quarter_by e a ≡ pos n) × (n ≤ nine_decimals)
   unfolding quarter_by
   quarter_size a h =
       let x = entries.each (a / 600) (omega arith) in
@@ -97,15 +96,15 @@ module _ (e : ℕ → ℤ) (entries : Entries e) where
           x.0,
           ap (between (e (a / 600)) (e (a / 600 + 1))) z ∙ at_minute (e (a / 600))
               (e (a / 600 + 1)) ∙ x.1,
-          omega (arith, x.2),
+          x.2,
         )
         | no z ↦
             let y = entries.each (a / 600 + 1) (omega arith) in
-            let l = between_most x.0 y.0 (a % 600) (omega arith) x.2 y.2 in
+            let l = between_most x.0 y.0 (a % 600) nine_decimals (omega arith) x.2 y.2 in
             (l.0, rw (x.1, y.1) l.1, l.2)
       ]
 
-  pub sine_size : (a : ℕ) → a < circle → nat_abs (sine_by e a) ≤ most_sine
+  pub sine_size : (a : ℕ) → a < circle → nat_abs (sine_by e a) ≤ nine_decimals
   sine_size a h =
       let q = quarter_size (folded a) (folded_most a h) in
       rw (← size_is e a (folded a) q.0 refl (sym q.1)) q.2

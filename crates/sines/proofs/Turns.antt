@@ -12,7 +12,6 @@ use lib.IntN.{ℤ, pos, nat_abs}
 use Rattle.answer.specs.Told.{given, refused}
 use Rattle.minutes.specs.Quadrant.{circle, folded, signed_by, quarter_ahead}
 use Rattle.sines.specs.Sine.{quarter_by, sine_by, cosine_by, of_angle, sides_by, turned_by}
-use Rattle.sines.specs.Sine.{most_sine}
 use Rattle.sines.specs.declared.Sides.{Sides}
 use Rattle.sines.specs.declared.Turned.TheVariants.{Are, OutOfRange}
 use Rattle.sines.proofs.Own.{Entries, quarter_size, sine_size}
@@ -67,8 +66,8 @@ signed_again e entries a h =
     rw (← size_is e a (folded a) q.0 refl (sym q.1))
     (sine_is e a (folded a) q.0 refl (sym q.1) (ltb 6480000 a) refl)
 
--- ---- for a caller who has them: no sine or cosine is above `most_sine`, and with its sign each is
--- that of the angle
+-- ---- for a caller who has them: no sine or cosine is above 1, and with its sign each is that of
+-- the angle
 module _ (e : ℕ → ℤ) (entries : Entries e) (a : ℕ) (s : Sides) (g : Are s ≡ turned_by e a) where
   pub in_circle : a < circle
   in_circle = elim (dec_lt a circle) [
@@ -83,11 +82,11 @@ module _ (e : ℕ → ℤ) (entries : Entries e) (a : ℕ) (s : Sides) (g : Are 
   ahead_circle : quarter_ahead a < circle
   ahead_circle = mod-lt (a + 3240000) (omega arith)
 
-  pub sine_most : s.sine ≤ most_sine
+  pub sine_most : s.sine ≤ 1000000000
   unfolding sides_by
   sine_most = rw these (sine_size e entries a in_circle)
 
-  pub cosine_most : s.cosine ≤ most_sine
+  pub cosine_most : s.cosine ≤ 1000000000
   unfolding sides_by
   cosine_most = rw these (sine_size e entries (quarter_ahead a) ahead_circle)
 

@@ -1,6 +1,6 @@
 -- docs/RULES.md, "Sines": the interpolation between the entries of the table, and what the steps
 -- answer.
-use Rattle.std.specs.Prelude.{cond, List, ℕ, ◌+◌, ◌-◌, ◌*◌, ◌/◌, ◌%◌, min, leb, ltb, get_or, ℤ, pos, nat_abs, ◌+ℤ◌, ◌-ℤ◌, ◌*ℤ◌}
+use Rattle.std.specs.Prelude.{cond, List, ℕ, ◌+◌, ◌/◌, ◌%◌, min, leb, ltb, get_or, ℤ, pos, nat_abs, ◌+ℤ◌, ◌-ℤ◌, ◌*ℤ◌}
 use Rattle.whole.specs.Nearest.{nearest}
 use Rattle.answer.specs.Refusal.{out_of_range}
 use Rattle.answer.specs.Told.{ToldStep, given, refused, in_range}
@@ -12,30 +12,9 @@ use Rattle.sines.specs.declared.Sides.{Sides}
 use Rattle.sines.specs.declared.Turned.{Turned}
 use Rattle.sines.specs.declared.Turned.TheVariants.{Are, OutOfRange}
 
--- what is added to an entry is summed exactly, in parts: so many make a unit of the ninth decimal,
--- and so many a six-hundredth of it
-abbrev pub parts : ℕ
-parts = 720000000000000000
-
-abbrev pub six_hundredth : ℕ
-six_hundredth = parts / tenths_in_minute
-
--- the straight line, "(entry m+1 less entry m) x r / 600"
-abbrev pub straight_line : ℤ → ℤ → ℕ → ℤ
-straight_line e f r = (f -ℤ e) *ℤ pos (r * six_hundredth)
-
--- the bend, "entry m x r x (600 - r) x 84,616 / 720,000,000,000,000,000": the parts for each unit
--- of the entry
-abbrev pub bend_rate : ℕ
-bend_rate = 84616
-
-abbrev pub bend : ℕ → ℕ
-bend r = r * (tenths_in_minute - r) * bend_rate
-
--- "entry m plus the nearest whole number to the sum of two parts, which are summed exactly and
--- rounded once"
+-- "entry m plus the nearest whole number to (entry m+1 less entry m) x r / 600"
 unfoldable pub between : ℤ → ℤ → ℕ → ℤ
-between e f r = e +ℤ nearest (straight_line e f r +ℤ e *ℤ pos (bend r)) parts
+between e f r = e +ℤ nearest ((f -ℤ e) *ℤ pos r) tenths_in_minute
 
 -- the sine of an angle of the first quadrant by given entries; at a whole minute, r = 0, it is the
 -- entry, whatever stands after it
@@ -50,8 +29,8 @@ sine_by e a = around (quarter_by e) a
 abbrev pub cosine_by : (ℕ → ℤ) → ℕ → ℤ
 cosine_by e a = sine_by e (quarter_ahead a)
 
--- the entries of any table that is lent: one above 1 counts as 1. Past 90 degrees a table has none,
--- and no sine takes one
+-- the entries of any table that is lent: one above 1 counts as 1, so that no sine is above 1. Past
+-- 90 degrees a table has none, and no sine takes one
 unfoldable pub entry_in : List ℕ → ℕ → ℤ
 entry_in t m = cond (leb m last_minute) (pos (min (get_or t m 0) nine_decimals)) (entry m)
 
@@ -83,11 +62,6 @@ abbrev pub told_cosine : Turned → ToldStep
 told_cosine (Are s) = given (signed_by s.back (pos s.cosine))
 told_cosine OutOfRange = refused out_of_range 0
 
--- 1 and the most that a bend adds to it: no sine by entries of at most 1 is above this, whatever
--- they are. Two entries of 1 give it half a minute past the first
-abbrev pub most_sine : ℕ
-most_sine = 1000000011
-
--- "Every sine is within 2 units of the ninth decimal of the exact one"
+-- "Every sine is within 20 units of the ninth decimal of the exact one"
 abbrev pub units : ℕ
-units = 2
+units = 20

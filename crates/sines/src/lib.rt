@@ -9,8 +9,7 @@ ghost use Rattle.minutes.specs.Quadrant.{circle, half_circle, quarter_circle, te
 ghost use Rattle.minutes.specs.Quadrant.{folded, signed_by, quarter_ahead};
 ghost use Rattle.minutes.specs.Exact.{nine_decimals};
 ghost use Rattle.minutes.specs.Entry.{entry, last_minute};
-ghost use Rattle.sines.specs.Sine.{bend as Sine·bend, between as Sine·between, most_sine};
-ghost use Rattle.sines.specs.Sine.{quarter_by, entry_in};
+ghost use Rattle.sines.specs.Sine.{between as Sine·between, quarter_by, entry_in};
 ghost use Rattle.sines.specs.Sine.{sine_by, cosine_by, of_angle, turned_by, told_sine, told_cosine};
 
 use answer::Amount;
@@ -23,12 +22,6 @@ const LAST_START: u32 = LAST_MINUTE as u32 - 1;
 
 // The tenths of a minute, as wide as the products that they divide.
 const MINUTE: u64 = TENTHS_IN_MINUTE as u64;
-
-// The bend is "r x (600 - r) x 84,616 / 720,000,000,000,000,000" of an entry: in parts, of which
-// the last number make a unit of the ninth decimal, and so many a six-hundredth of it.
-const BEND: u64 = 84_616;
-
-const SIX_HUNDREDTH: u64 = 720_000_000_000_000_000 / MINUTE;
 
 // The sine and the cosine of an angle: their sizes, and whether each is negative, the sine past 180
 // degrees, the cosine between 90 and 270.
@@ -64,61 +57,46 @@ fn counted(e: u32) -> u32
     e
 }
 
-// By how many parts each unit of an entry is bent, r tenths past its minute or r tenths before the
-// next.
-fn bend(r: u32) -> u64
-    requires { r ≤ tenths_in_minute }
-    ensures past { result ≡ Sine·bend r }
-    ensures before { result ≡ Sine·bend (tenths_in_minute - r) }
-{
-    (r * (TENTHS_IN_MINUTE - r)) as u64 * BEND
-}
-
-// The sine r tenths past a minute whose entry is e, where the next entry is f and no lower: up by
-// the line and the bend, summed in six-hundredths of a unit and rounded once. Of the bend whole
-// ones are enough, since half a unit is a whole number of them.
-fn rise(e: u32, f: u32, r: u32, bend: u64) -> u32
-    requires r_le_tenths_in_minute { (r ≤ tenths_in_minute) × (bend ≡ Sine·bend r) }
+// The sine r tenths past a minute whose entry is e, where the next entry is f and no lower: by a
+// straight line, to the nearest.
+fn rise(e: u32, f: u32, r: u32) -> u32
+    requires r_le_tenths_in_minute { r ≤ tenths_in_minute }
     requires e_le_f { (e ≤ f) × (f ≤ nine_decimals) }
     ensures is { pos result ≡ Sine·between (pos e) (pos f) r }
-    ensures most { result ≤ most_sine }
+    ensures most { result ≤ nine_decimals }
 {
-    e + whole::half_up(
-        (f - e) as u64 * r as u64 + e as u64 * bend / SIX_HUNDREDTH,
-        MINUTE,
-    ) as u32
+    e + whole::half_up((f - e) as u64 * r as u64, MINUTE) as u32
 }
 
-// The same where the next entry is no higher: the line goes down and the bend up, and what the
-// larger of the two has over the other is rounded.
-fn fall(e: u32, f: u32, r: u32, bend: u64) -> u32
-    requires r_le_tenths_in_minute { (r ≤ tenths_in_minute) × (bend ≡ Sine·bend r) }
-    requires f_le_e { (f ≤ e) × (e ≤ nine_decimals) }
+// The sine r tenths past a minute whose entry is e, where the next entry f may be lower.
+fn between(e: u32, f: u32, r: u32) -> u32
+    requires r_le_tenths_in_minute { r ≤ tenths_in_minute }
+    requires e_le_nine_decimals { (e ≤ nine_decimals) × (f ≤ nine_decimals) }
     ensures is { pos result ≡ Sine·between (pos e) (pos f) r }
-    ensures most { result ≤ most_sine }
+    ensures most { result ≤ nine_decimals }
 {
-    let down = (e - f) as u64 * r as u64;
-    let up = e as u64 * bend;
-    if down <= up / SIX_HUNDREDTH {
-        return e + whole::half_up(up / SIX_HUNDREDTH - down, MINUTE) as u32;
+    if e <= f {
+        return rise(e, f, r);
     }
-    e - whole::half_up(down - (up + SIX_HUNDREDTH - 1) / SIX_HUNDREDTH, MINUTE) as u32
+    e - whole::half_up((e - f) as u64 * r as u64, MINUTE) as u32
 }
 
-// The sine r tenths past a minute, by the entries of a lent table, each as it counts. Those of a
-// table of sines rise; in any other they may fall.
-fn past_minute(table: &[u32; ENTRIES], m: usize, r: u32, bend: u64) -> u32
-    requires { (m < last_minute) × (r ≤ tenths_in_minute) × (bend ≡ Sine·bend r) }
+// The sine r tenths past a minute, by the entries of a lent table. Those of a table of sines rise
+// and are at most 1, which is tested first: then each counts as it stands.
+fn past_minute(table: &[u32; ENTRIES], m: usize, r: u32) -> u32
+    requires { (m < last_minute) × (r ≤ tenths_in_minute) }
     ensures is { pos result ≡ Sine·between (entry_in table.now m)
         (entry_in table.now (m + 1)) r }
-    ensures most { result ≤ most_sine }
+    ensures most { result ≤ nine_decimals }
 {
-    let e = counted(table[m]);
-    let f = counted(table[m + 1]);
-    if e <= f {
-        return rise(e, f, r, bend);
+    let e = table[m];
+    let f = table[m + 1];
+    if f <= NINE_DECIMALS {
+        if e <= f {
+            return rise(e, f, r);
+        }
     }
-    fall(e, f, r, bend)
+    between(counted(e), counted(f), r)
 }
 
 // The minute from which an angle of the first quadrant is counted. At 90 degrees it is the one
@@ -139,15 +117,14 @@ fn minute(a: u32) -> u32
 fn quarter_in(table: &[u32; ENTRIES], a: u32) -> u32
     requires { a ≤ quarter_circle }
     ensures is { pos result ≡ quarter_by (entry_in table.now) a }
-    ensures most { result ≤ most_sine }
+    ensures most { result ≤ nine_decimals }
 {
     let m = minute(a);
-    let r = a - TENTHS_IN_MINUTE * m;
-    past_minute(table, m as usize, r, bend(r))
+    past_minute(table, m as usize, a - TENTHS_IN_MINUTE * m)
 }
 
 // The sine and the cosine of an angle of the first quadrant. The cosine's angle is what is left to
-// 90 degrees: the same tenths and the same bend, counted back from the other end of the table.
+// 90 degrees: the same tenths, counted back from the other end of the table.
 fn both_in(table: &[u32; ENTRIES], a: u32) -> Sizes
     requires { a ≤ quarter_circle }
     ensures sine { pos result.sine ≡ quarter_by (entry_in table.now) a }
@@ -156,10 +133,9 @@ fn both_in(table: &[u32; ENTRIES], a: u32) -> Sizes
 {
     let m = minute(a);
     let r = a - TENTHS_IN_MINUTE * m;
-    let bend = bend(r);
     Sizes {
-        sine: past_minute(table, m as usize, r, bend),
-        cosine: past_minute(table, (LAST_START - m) as usize, TENTHS_IN_MINUTE - r, bend),
+        sine: past_minute(table, m as usize, r),
+        cosine: past_minute(table, (LAST_START - m) as usize, TENTHS_IN_MINUTE - r),
     }
 }
 

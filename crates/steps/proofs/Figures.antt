@@ -1,7 +1,7 @@
 -- docs/RULES.md, "Figures on both sides": what the definitions give is what the rules print. The
 -- figures marked P are one claim over one list, `marked`; the other figures of the steps stand in
--- `others`, those of the combined factor in `products`, and those that show the bend of the sines
--- in `bends`. All are computed by antt from the definitions. A further figure is one line.
+-- `others`, and those of the combined factor in `products`. All are computed by antt from the
+-- definitions. A further figure is one line.
 use mathlib.Core.Path.{◌≡◌, refl}
 use mathlib.Core.List.{List, [], ◌∷◌, map}
 use Prim.Native.Nat.{ℕ, ◌+◌, ◌*◌}
@@ -85,16 +85,6 @@ products =
     ∷ fig (combine_step 9999409 9999750) (pos 9999159)
     ∷ []
 
--- the bend: two sines in the middle of a minute, one where line and bend, each rounded by itself,
--- come to a unit less, and a departure of document 000 that the line alone leaves a hundredth short
-pub bends : List Figure
-bends =
-    fig (sine_at (dms 45 0 30 0)) (pos 707209618)
-    ∷ fig (sine_at (dms 85 0 30 0)) (pos 996207364)
-    ∷ fig (sine_at (dms 0 2 27 3)) (pos 714131)
-    ∷ fig (course_step entry east 4605238 (dms 89 1 40 0)) (neg_ℤ (pos 460458))
-    ∷ []
-
 abbrev Hold : List Figure → Type 0
 Hold figures =
     map (λ (f : Figure). f.rule) figures ≡ map (λ (f : Figure). given f.printed) figures
@@ -114,12 +104,6 @@ others_hold = refl
 pub products_hold : Hold products
 unfolding products sea_level combine inside
 products_hold = refl
-
-pub bends_hold : Hold bends
-unfolding bends sine_by quarter_by between entry nearest exact_sine around signed_by folded
-    exact_quarter
-    by_series series weight unity straight pi factorial inside move sine_along
-bends_hold = refl
 
 -- the two roots of docs/ROOT.md, worked by the definition of the method: root and remainder
 pub roots_worked : (worked 9 159921895 ≡ record { root = 12646; remainder = 579 })

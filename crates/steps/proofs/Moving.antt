@@ -20,7 +20,7 @@ use Rattle.answer.specs.declared.Amount.{Amount}
 use Rattle.answer.specs.declared.Amount.TheVariants as amount
 use Rattle.answer.proofs.Telling.{tells, refuses, value_given, both, not_second}
 use Rattle.minutes.specs.Quadrant.{circle, signed_by, quarter_ahead}
-use Rattle.sines.specs.Sine.{entry_in, of_angle, turned_by, most_sine}
+use Rattle.sines.specs.Sine.{entry_in, of_angle, turned_by}
 use Rattle.sines.specs.declared.Sides.{Sides}
 use Rattle.sines.specs.declared.Turned.{Turned}
 use Rattle.sines.specs.declared.Turned.TheVariants as turn
@@ -36,8 +36,8 @@ use Rattle.steps.proofs.Laws.{product_most}
 -- ---- a move by the size of its sine: the other way round from the sine
 module _ (distance size : ℕ) where
   -- the product before it is divided is no large number
-  pub product_small : distance ≤ 20100000 → size ≤ most_sine → distance * size ≤ 20100000221100000
-  product_small h k = product_most distance size 20100000 most_sine h k
+  pub product_small : distance ≤ 20100000 → size ≤ 1000000000 → distance * size ≤ 20100000000000000
+  product_small h k = product_most distance size 20100000 1000000000 h k
 
   module _ (n : ℕ) (is : n ≡ half_up (distance * size) 10000000000) (negative : Bool) (v : ℤ) where
     pub by_negative : v ≡ pos n → negative ≡ true → v ≡ move distance (signed_by negative (pos size))
@@ -82,10 +82,10 @@ side_along east s = signed_by s.past (pos s.sine)
 
 module _ (t : List ℕ) (azimuth : ℕ) (r : Turned) (s : Sides) (g : r ≡ turned_by (entry_in t) azimuth)
     (f : r ≡ turn.Are s) where
-  pub sine_small : s.sine ≤ most_sine
+  pub sine_small : s.sine ≤ 1000000000
   sine_small = sine_most (entry_in t) (lent_entries t) azimuth s (sym f ∙ g)
 
-  pub cosine_small : s.cosine ≤ most_sine
+  pub cosine_small : s.cosine ≤ 1000000000
   cosine_small = cosine_most (entry_in t) (lent_entries t) azimuth s (sym f ∙ g)
 
   side_is : (axis : Axis) → side_along axis s ≡ sine_along (entry_in t) axis azimuth
@@ -130,7 +130,7 @@ module _ (distance : ℕ) (s : Amount) where
   no_sine f = rw f (refuses _ _ (not_second (leb distance 20100000) false refl))
 
   module _ (w : Whole) (size : ℕ) (f : s ≡ amount.Is w) (g : size ≡ nat_abs w.v) where
-    pub size_small : nat_abs (told_amount s).value ≤ most_sine → size ≤ most_sine
+    pub size_small : nat_abs (told_amount s).value ≤ 1000000000 → size ≤ 1000000000
     unfolding told_amount
     size_small h = rw g (rw f at h)
 
@@ -142,9 +142,9 @@ module _ (distance : ℕ) (s : Amount) where
         rw f (tells _ v _ (both _ _ (le-leb distance 20100000 h) refl)
         (m ∙ rw (b, g, signed w.v)))
 
--- no sine that counts along an axis is above `most_sine`
+-- no sine that counts along an axis is above 1
 pub along_most : (e : ℕ → ℤ) → Entries e → (axis : Axis) (azimuth : ℕ) → azimuth < circle
-    → nat_abs (sine_along e axis azimuth) ≤ most_sine
+    → nat_abs (sine_along e axis azimuth) ≤ 1000000000
 unfolding sine_along
 along_most e entries north azimuth h =
     sine_size e entries (quarter_ahead azimuth) (mod-lt (azimuth + 3240000) (omega arith))
@@ -153,7 +153,7 @@ along_most e entries east azimuth h = sine_size e entries azimuth h
 -- and what a caller has who was told it
 module _ (e : ℕ → ℤ) (axis : Axis) (azimuth : ℕ) (s : Amount)
     (g : told_amount s ≡ of_angle azimuth (sine_along e axis azimuth)) where
-  pub along_small : Entries e → nat_abs (told_amount s).value ≤ most_sine
+  pub along_small : Entries e → nat_abs (told_amount s).value ≤ 1000000000
   along_small entries =
       elim (dec_lt azimuth circle) [
         | yes h ↦

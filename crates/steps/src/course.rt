@@ -2,9 +2,10 @@
 // from south, hence the minus signs.
 ghost use Rattle.std.specs.Prelude.{◌≡◌, ◌&&◌, ◌≤◌, eqb, leb, pos, nat_abs};
 ghost use Rattle.answer.specs.Told.{told_amount, in_range};
+ghost use Rattle.minutes.specs.Exact.{nine_decimals};
 ghost use Rattle.minutes.specs.Quadrant.{signed_by};
 ghost use Rattle.minutes.specs.Entry.{entry};
-ghost use Rattle.sines.specs.Sine.{entry_in, most_sine};
+ghost use Rattle.sines.specs.Sine.{entry_in};
 ghost use Rattle.steps.specs.Course.{north as Course·north, east as Course·east};
 ghost use Rattle.steps.specs.Course.{most_grid, move as Course·move, course_step, told_move};
 
@@ -53,7 +54,7 @@ impl Moves {
 // the size is rounded, and the opposite sign put on.
 fn move_by(distance: u64, size: u32, negative: bool) -> Whole
     requires distance_le_most_grid { distance ≤ most_grid }
-    requires size_le_most_sine { size ≤ most_sine }
+    requires size_le_nine_decimals { size ≤ nine_decimals }
     ensures { result.v ≡ Course·move distance (signed_by negative (pos size)) }
 {
     let moved = Whole::of_size(whole::half_up(distance * size as u64, PER_HUNDREDTH));
@@ -84,7 +85,7 @@ pub fn moves_in(table: &[u32; ENTRIES], distance: u64, azimuth: u32) -> Moves
 
 // The latitude or the departure of a leg, by the one sine that counts.
 fn moved(distance: u64, sine: Amount) -> Amount
-    requires { nat_abs (told_amount sine).value ≤ most_sine }
+    requires { nat_abs (told_amount sine).value ≤ nine_decimals }
     ensures { told_amount result
         ≡ in_range (leb distance most_grid && eqb (told_amount sine).number 0)
         (Course·move distance (told_amount sine).value) }

@@ -14,5 +14,5 @@ pub quarter_in_spec : {M : Type 1} → statement M
 quarter_in_spec =
     tie.close
     (tie.spec (λ c κs. search rules) (λ c. search rules) (λ c. search rules) (λ c. search rules)
-    (λ c κs. search rules) (λ c κs. search rules)
+    (λ c κs. search rules)
     returns)

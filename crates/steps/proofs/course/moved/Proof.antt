@@ -3,7 +3,6 @@
 use borrow.Author.Rules.{rules}
 use Prim.Native.Nat.{◌≤◌}
 use Rattle.answer.proofs.Telling.{ranges}
-use Rattle.sines.specs.Sine.{most_sine}
 use Rattle.steps.proofs.Moving.{no_sine, size_small, move_told_lem}
 use Rattle.steps.proofs.course.moved.Statement.{statement}
 use Rattle.steps.proofs.course.moved.Tie as tie
@@ -12,7 +11,7 @@ returns : tie.Need-returns
 returns c = search ranges
 
 cast-move-by : tie.Need-overflow-cast-move-by
-cast-move-by c = let h : c.size.result ≤ most_sine = search size_small in search rules
+cast-move-by c = let h : c.size.result ≤ 1000000000 = search size_small in search rules
 
 move-by-requires : tie.Need-move-by-requires
 move-by-requires c κs = (search rules, search size_small)
