@@ -1,5 +1,7 @@
 // What a public step answers: the value, or a refusal. specs/Told.antt says of every case which
 // number, place and value that is.
+#![tactic(auto)]
+
 ghost use Rattle.std.specs.Prelude.{◌≡◌, pos};
 ghost use Rattle.answer.specs.Told.{told_amount, told_count, told_verdict, passes};
 
@@ -10,21 +12,21 @@ pub mod refusal;
 
 // The answer of an arithmetic step: an amount with a sign, or the input was out of the range stated
 // with the step.
-#[derive(Drop)]
+#[derive(Clone, Copy)]
 pub enum Amount {
     Is(Whole),
     OutOfRange,
 }
 
 // The answer of a step whose value is never negative.
-#[derive(Drop)]
+#[derive(Clone, Copy)]
 pub enum Count {
     Is(u64),
     OutOfRange,
 }
 
 // The answer of a step that tests.
-#[derive(Drop)]
+#[derive(Clone, Copy)]
 pub enum Verdict {
     Passes,
     Fails,

@@ -1,6 +1,8 @@
 // Reads a bundle of cases on standard input and prints all that is answered to each, for
 // comparison: the expected output is made by the second program, which is written from the rules
 // alone. A case is a letter, which says its subject, and what the subject's module reads.
+#![tactic(auto)]
+
 mod angles;
 mod calls;
 mod field_notes;

@@ -9,7 +9,7 @@ use tape::Point;
 use whole::Whole;
 
 // The offsets of a station: how far north and east of the first it stands.
-#[derive(Drop)]
+#[derive(Clone, Copy)]
 struct Offsets {
     north: Whole,
     east: Whole,

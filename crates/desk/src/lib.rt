@@ -1,5 +1,7 @@
 // The desk: a tape in, an adjusted traverse or its sheet out, in two steps. The first checks and
 // balances the angles, the second closes and adjusts.
+#![tactic(auto)]
+
 ghost use Rattle.std.specs.Prelude.{◌≡◌, ◌≤◌, length};
 ghost use Rattle.tape.specs.Fields.{fields_of};
 ghost use Rattle.desk.specs.Answer.{station_words, told_traverse, checked_angles};
@@ -30,7 +32,7 @@ pub const SHEET_BYTES: usize = 4_096;
 // share W, the misclosure W, the combined factor, the two fixed points, and the place of the close.
 // The balanced azimuth and the measured distance of each leg stand in two lists beside it. No
 // latitude, departure or coordinate of a station stands in it.
-#[derive(Drop)]
+#[derive(Clone, Copy)]
 pub struct Frame {
     pub legs: usize,
     pub angles: usize,
@@ -42,14 +44,14 @@ pub struct Frame {
 }
 
 // What the first step answers: a refusal, or that the angles close.
-#[derive(Drop)]
+#[derive(Clone, Copy)]
 pub enum Checked {
     Refused { number: u32, place: usize },
     Good(Frame),
 }
 
 // What is summed along the legs up to a station: the preliminary coordinates and the distance run.
-#[derive(Drop)]
+#[derive(Clone, Copy)]
 pub struct Sums {
     pub north: Whole,
     pub east: Whole,
@@ -58,7 +60,7 @@ pub struct Sums {
 
 // The closure of a traverse: how far north and how far east of the fixed end its preliminary end
 // lies, and the distance run over all legs, which is S.
-#[derive(Drop)]
+#[derive(Clone, Copy)]
 pub struct Closure {
     pub north: Whole,
     pub east: Whole,
@@ -67,7 +69,7 @@ pub struct Closure {
 
 // The figures of an adjusted traverse: n, W, both closures, the precision number, the doubled area
 // and whether it is a loop.
-#[derive(Drop)]
+#[derive(Clone, Copy)]
 pub struct Figures {
     pub legs: usize,
     pub w: Whole,
@@ -79,14 +81,14 @@ pub struct Figures {
 }
 
 // What a traverse is answered with.
-#[derive(Drop)]
+#[derive(Clone, Copy)]
 pub enum Answer {
     Refused { number: u32, place: usize },
     Adjusted(Figures),
 }
 
 // What the sheet step answers: a refusal, or the length of the text.
-#[derive(Drop)]
+#[derive(Clone, Copy)]
 pub enum Page {
     Refused { number: u32, place: usize },
     Text(usize),

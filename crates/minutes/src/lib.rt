@@ -3,6 +3,8 @@
 //
 // It is a constant, and every sine of the desk is read from it. A function that names it lays it
 // out by value, so a caller that wants many sines takes the table once and lends it.
+#![tactic(auto)]
+
 ghost use Rattle.minutes.specs.Entry.{Table};
 
 mod constant;

@@ -7,7 +7,7 @@ use crate::{Fault, Item, number, scan, units};
 use minutes::quadrant::TENTHS_IN_MINUTE;
 
 // The amount read last, in units of its last decimal, the offset after it, and the first fault.
-#[derive(Drop)]
+#[derive(Clone, Copy)]
 pub struct Amount {
     pub value: u32,
     pub at: usize,

@@ -1,5 +1,7 @@
 // Field notes: a traverse as lines of text, turned into a tape by the proved writer of records.
 // docs/NOTES.md has the form of the text.
+#![tactic(auto)]
+
 ghost use Rattle.std.specs.Prelude.{◌≡◌, ◌≤◌, length, take};
 ghost use Rattle.notes.specs.Bom.{without_bom};
 ghost use Rattle.notes.specs.Noting.{Owed, text_length_of};
@@ -12,7 +14,7 @@ use writer::Written;
 pub const TEXT_BYTES: usize = 16_384;
 
 // The word that a line starts with.
-#[derive(Drop)]
+#[derive(Clone, Copy)]
 pub enum Word {
     Row,
     Project,
@@ -23,7 +25,7 @@ pub enum Word {
 }
 
 // A number of a line.
-#[derive(Drop)]
+#[derive(Clone, Copy)]
 pub enum Item {
     LatitudeDegrees,
     LatitudeMinutes,
@@ -42,7 +44,7 @@ pub enum Item {
 
 // What is wrong with a text: the first eight of a line by itself, the others of the tape that the
 // lines make. `Nothing` is never answered.
-#[derive(Drop)]
+#[derive(Clone, Copy)]
 pub enum Fault {
     Nothing,
     UnknownWord,
@@ -62,7 +64,7 @@ pub enum Fault {
 
 // The length of the tape, or the first fault and the number of its line, counted from 1; 0 is the
 // end of the text.
-#[derive(Drop)]
+#[derive(Clone, Copy)]
 pub enum Noted {
     Tape(usize),
     Wrong { line: usize, fault: Fault },
@@ -70,14 +72,14 @@ pub enum Noted {
 
 // The length of a tape's text, or the refusal: the tape's, or 1 where less than 16,384 bytes are
 // lent, which hold the longest text.
-#[derive(Drop)]
+#[derive(Clone, Copy)]
 pub enum Texted {
     Text(usize),
     Refused { number: u32, place: usize },
 }
 
 // A line written: where the next record goes, or what is wrong with the line.
-#[derive(Drop)]
+#[derive(Clone, Copy)]
 enum Entry {
     Until(usize),
     Wrong(Fault),

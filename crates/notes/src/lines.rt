@@ -5,7 +5,7 @@ use records::{CLOSE_BYTES, LEG_BYTES, PROJECT_BYTES, ROW_BYTES, Record, START_BY
 use whole::Whole;
 
 // The record that a line says, or what is wrong with the line.
-#[derive(Drop)]
+#[derive(Clone, Copy)]
 pub struct Line {
     pub record: Record,
     pub fault: Fault,

@@ -16,14 +16,14 @@ const WIDE_WIDEST: u64 = WIDEST as u64;
 
 // The digits from an offset on, after those of a value before: the value of all, and the offset
 // after them.
-#[derive(Drop)]
+#[derive(Clone, Copy)]
 pub struct Digits {
     pub value: u64,
     pub at: usize,
 }
 
 // What a word says where a number is expected.
-#[derive(Drop)]
+#[derive(Clone, Copy)]
 pub enum Number {
     Good(u32),
     NotOne,

@@ -1,6 +1,8 @@
 // Field notes on standard input, their tape on standard output; a fault is one line on standard
 // error, and then nothing is written as a tape. A byte-order mark before the notes is passed over.
 // The kit gives a program no exit status: its callers go by what it writes.
+#![tactic(auto)]
+
 use libc::{STDERR_FILENO, STDIN_FILENO, STDOUT_FILENO};
 use notes::{Fault, Noted};
 

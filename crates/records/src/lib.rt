@@ -1,8 +1,10 @@
 // The records of a tape: the kinds, the length of each, and the ranges of their fields.
+#![tactic(auto)]
+
 use whole::Whole;
 
 // A record, with its fields as docs/RULES.md, "The tape", names them.
-#[derive(Drop)]
+#[derive(Clone, Copy)]
 pub enum Record {
     Row {
         minute: u32,

@@ -1,5 +1,7 @@
 // The program SHEET: a tape on standard input, its sheet on standard output, or the line of its
 // refusal. All that is printed is made by `desk`.
+#![tactic(auto)]
+
 use desk::SHEET_BYTES;
 use libc::{STDIN_FILENO, STDOUT_FILENO};
 

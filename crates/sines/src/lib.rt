@@ -3,6 +3,8 @@
 //
 // The functions that end in `_in` read a lent table, whatever it holds; the others lay out the
 // desk's own once their angle is known to be one. Sizes are unsigned, and a sign is put on once.
+#![tactic(auto)]
+
 ghost use Rattle.std.specs.Prelude.{◌≡◌, ◌+◌, ◌-◌, ◌*◌, ◌<◌, ◌≤◌, ◌^◌, min, ltb, pos, nat_abs};
 ghost use Rattle.answer.specs.Told.{told_amount};
 ghost use Rattle.minutes.specs.Quadrant.{circle, half_circle, quarter_circle, tenths_in_minute};
@@ -25,7 +27,7 @@ const MINUTE: u64 = TENTHS_IN_MINUTE as u64;
 
 // The sine and the cosine of an angle: their sizes, and whether each is negative, the sine past 180
 // degrees, the cosine between 90 and 270.
-#[derive(Drop)]
+#[derive(Clone, Copy)]
 pub struct Sides {
     pub sine: u32,
     pub past: bool,
@@ -34,14 +36,14 @@ pub struct Sides {
 }
 
 // The sizes of a sine and a cosine, without their signs.
-#[derive(Drop)]
+#[derive(Clone, Copy)]
 struct Sizes {
     sine: u32,
     cosine: u32,
 }
 
 // The sine and the cosine of an angle, or it was no angle of the circle.
-#[derive(Drop)]
+#[derive(Clone, Copy)]
 pub enum Turned {
     OutOfRange,
     Are(Sides),

@@ -22,7 +22,7 @@ const MOST_GRID: u64 = 20_100_000;
 const PER_HUNDREDTH: u64 = 10_000_000_000;
 
 // Both moves of a leg, or its input was out of the range stated with the step.
-#[derive(Drop)]
+#[derive(Clone, Copy)]
 pub enum Moves {
     OutOfRange,
     Are { north: Whole, east: Whole },

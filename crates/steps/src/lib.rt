@@ -2,6 +2,8 @@
 // is out of the range stated with the step, the answer tells 4, place 0. The private module `root`
 // is no step: it has the root of the precision number. The private module `wide` has the limits and
 // the circle of the crates below as 64-bit numbers.
+#![tactic(auto)]
+
 pub mod area;
 pub mod azimuth;
 pub mod closure;

@@ -13,14 +13,14 @@ const PAIRS: u64 = 9;
 const FIRST: u64 = 10_000_000_000_000_000;
 
 // The working on paper: the root found so far, and the remainder.
-#[derive(Drop)]
+#[derive(Clone, Copy)]
 struct Working {
     root: u64,
     remainder: u64,
 }
 
 // The pairs still to be brought down: the first `left` of the nine pairs of `number`.
-#[derive(Drop)]
+#[derive(Clone, Copy)]
 struct Pairs {
     number: u64,
     left: u64,

@@ -1,4 +1,6 @@
 // The tape: the reading of a whole tape, and its fields.
+#![tactic(auto)]
+
 ghost use Rattle.std.specs.Prelude.{◌≡◌, ◌+◌, ◌-◌, ◌≤◌, length, get_or};
 ghost use Rattle.records.specs.Record.{leg_kind, body_of};
 ghost use Rattle.tape.specs.Tape.{is_leg, reading_of, told_reading};
@@ -10,7 +12,7 @@ use whole::Whole;
 
 // What has been read so far: what has come last (`phase`), how many rows and legs, and the minute
 // that the next row must have.
-#[derive(Drop)]
+#[derive(Clone, Copy)]
 pub struct State {
     pub phase: u32,
     pub rows: u32,
@@ -19,28 +21,28 @@ pub struct State {
 }
 
 // Where the reading stands: a place, and what has been read before it.
-#[derive(Drop)]
+#[derive(Clone, Copy)]
 struct Cursor {
     at: usize,
     st: State,
 }
 
 // What was read of some records: the number of a refusal, or 0, and where the reading stands.
-#[derive(Drop)]
+#[derive(Clone, Copy)]
 struct Passed {
     number: u32,
     cursor: Cursor,
 }
 
 // What a tape's reading answers.
-#[derive(Drop)]
+#[derive(Clone, Copy)]
 pub enum Reading {
     Reads(State),
     Refused { number: u32, place: usize },
 }
 
 // A point of the grid, in hundredths of a foot.
-#[derive(Drop)]
+#[derive(Clone, Copy)]
 pub struct Point {
     pub north: u32,
     pub east: u32,
@@ -48,7 +50,7 @@ pub struct Point {
 
 // The fields of a tape, but for the angles and distances: these stay on the tape, from the place
 // `line` on, where the first leg stands; the close stands at `place`.
-#[derive(Drop)]
+#[derive(Clone, Copy)]
 pub struct Control {
     pub legs: usize,
     pub line: usize,
@@ -64,7 +66,7 @@ pub struct Control {
 // What was sighted at a station, as it stands at a place: the angle and the distance of the leg
 // there, and the place of the record after it. A close has an angle, and no leg after it: its next
 // place is its own.
-#[derive(Drop)]
+#[derive(Clone, Copy)]
 pub struct Sight {
     pub angle: u32,
     pub distance: u32,
@@ -72,7 +74,7 @@ pub struct Sight {
 }
 
 // A tape's refusal, or the fields of one that reads.
-#[derive(Drop)]
+#[derive(Clone, Copy)]
 pub enum Taken {
     Refused { number: u32, place: usize },
     Reads(Control),

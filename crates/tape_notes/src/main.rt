@@ -1,6 +1,8 @@
 // A tape on standard input, its field notes on standard output; a refused tape is one line on
 // standard error, and then nothing is written as notes. The kit gives a program no exit status: its
 // callers go by what it writes.
+#![tactic(auto)]
+
 use libc::{STDERR_FILENO, STDIN_FILENO, STDOUT_FILENO};
 use notes::Texted;
 

@@ -2,13 +2,14 @@
 -- because the last k digits of n, read on from the number n / 10 ^ k before them, spell n, while
 -- the point and a plus are passed over and a minus stands first exactly where the amount is
 -- negative.
-use Prim.Native.Nat.{ℕ, zero, suc, ◌+◌, ◌*◌, ◌/◌, ◌%◌, ◌^◌, ◌<◌}
+use Prim.Native.Nat.{ℕ, zero, suc, ◌+◌, ◌-◌, ◌*◌, ◌/◌, ◌%◌, ◌^◌, ◌<◌}
 use native.Mathlib.Omega.{arith}
 use native.Mathlib.Nat.{div-one, div-eq_of_lt}
 use mathlib.Core.Path.{◌≡◌, refl, sym, ap, ◌∙◌}
-use mathlib.Core.Bool.{false}
+use mathlib.Core.Bool.{false, cond, ◌&&◌}
 use mathlib.Core.List.{List, [], ◌∷◌, ◌++◌}
 use borrow.Author.Tests.{le-leb, le-ltb, ne_eqb}
+use lib.Dec.{leb}
 use lib.IntN.{ℤ, pos, negsuc}
 use Rattle.text.specs.Text.{ascii, digits, digit_count, decimal, pointed, sign, amount, signed}
 use Rattle.text.specs.Text.{plain}
@@ -19,7 +20,8 @@ use Rattle.text.proofs.Digits.{digit_count_hold, tenth_first}
 spelled_append : (n : ℕ) (xs ys : List ℕ) → spelled n (xs ++ ys) ≡ spelled (spelled n xs) ys
 unfolding spelled
 spelled_append n [] ys = refl
-spelled_append n (x ∷ xs) ys = spelled_append _ xs ys
+spelled_append n (x ∷ xs) ys =
+    spelled_append (cond (leb 48 x && leb x 57) (10 * n + (x - 48)) n) xs ys
 
 minus_append : (xs ys : List ℕ) → minus xs ≡ false → minus ys ≡ false → minus (xs ++ ys) ≡ false
 minus_append [] ys h i = i

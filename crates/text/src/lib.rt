@@ -1,6 +1,8 @@
 // Numbers and words as text in the lent bytes, from an offset on. Each writer answers the offset
 // after what it wrote. A tool, as `whole` is: its functions ask for room, and every caller is
 // proved to have it.
+#![tactic(auto)]
+
 ghost use Rattle.std.specs.Prelude.{◌≡◌, ◌++◌, ◌/◌, ◌^◌, ◌<◌};
 ghost use Rattle.text.specs.Text.{ascii, digits, decimal, sign, amount};
 ghost use Rattle.text.specs.Text.{digit_count};
@@ -11,7 +13,7 @@ use whole::Whole;
 mod pairs;
 
 // An amount in units of its last decimal, `unit` of which make a whole one.
-#[derive(Drop)]
+#[derive(Clone, Copy)]
 pub struct Quantity {
     pub amount: Whole,
     pub decimals: usize,

@@ -5,6 +5,8 @@
 
 // The figures that a traverse is told with: n, W, both closures, the precision number, the doubled
 // area, and 1 for a loop. The header has the same name, and specs/Face.antt has `figure_count`.
+#![tactic(auto)]
+
 pub const FIGURES: usize = 7;
 
 mod arithmetic;

@@ -110,7 +110,7 @@ range_above z n low high f e = let s = sign_above z e in rw (f, s.1) (go low s.0
 -- ---- by the sign. Of an amount below zero the code takes one more, turns the sign, and adds the
 -- one again: so it does for the least i64 too
 back_all : (z : ℤ) → mag z < 2 ^ 63 → back z ≡ z
-back_all z m = to_z-of_z (record { sfits = m })
+back_all z m = to_z-of_z {w = w64} (record { sfits = m })
 
 module _ (z : ℤ) (m : mag z < 2 ^ 63) (e : lt_z (back z) (pos 0) ≡ true) where
   -- one less than the size

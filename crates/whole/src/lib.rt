@@ -1,11 +1,13 @@
 // Whole numbers with a sign, the desk's only signed arithmetic. To the prover the field of a
 // `Whole` is a number of ℤ, where a bare i64 is its bits, so no crate above this one meets bits.
 // Each promise gives the value, and where a caller needs it a bound on the size.
+#![tactic(auto)]
+
 ghost use Rattle.std.specs.Prelude.{◌≡◌, ◌+◌, ◌*◌, ◌<◌, ◌≤◌, ◌^◌, pos, neg_ℤ, nat_abs, ◌+ℤ◌, ◌-ℤ◌, ◌*ℤ◌};
 ghost use Rattle.std.specs.Int.Signed.{lt_z};
 ghost use Rattle.whole.specs.Nearest.{half_up};
 
-#[derive(Drop)]
+#[derive(Clone, Copy)]
 pub struct Whole {
     pub v: i64,
 }

@@ -1,4 +1,6 @@
 // The writing of one record of a tape into lent bytes.
+#![tactic(auto)]
+
 ghost use Rattle.std.specs.Prelude.{◌≡◌, true, ◌++◌, ◌+◌, ◌≤◌, length, take, drop};
 ghost use Rattle.records.specs.Record.{good_record, bytes_of_record};
 ghost use Rattle.writer.specs.Write.{Wrote};
@@ -7,7 +9,7 @@ use answer::refusal::{NO_ROOM, OUT_OF_RANGE};
 use records::Record;
 
 // What the writer of one record answers: the next place, or the refusal.
-#[derive(Drop)]
+#[derive(Clone, Copy)]
 pub enum Written {
     Until(usize),
     Refused { number: u32, place: usize },
