@@ -23,7 +23,7 @@ use Rattle.tape.specs.declared.Passed.{Passed}
 use Rattle.tape.specs.declared.Reading.{Reading}
 use Rattle.tape.specs.declared.Reading.TheVariants.{Refused, Reads}
 use Rattle.tape.proofs.Walk.{no as never, walk_stop, walk_closed}
-use Rattle.tape.proofs.order.Passing.{fails, goes_on, other_kind, one_too_many, cut_short}
+use Rattle.tape.proofs.order.Passing.{fails, goes_on, other_kind, one_too_many, cut_short_lem}
 use Rattle.tape.proofs.order.Passing.{row_comes, leg_low}
 
 -- ---- rows in a run: so many are read, seven bytes each, and they stand before the end that the
@@ -124,7 +124,7 @@ module _ (s : List ℕ) (end : ℕ) (c : Cursor) (a : Along s end c) where
     cut i low l =
         let h = none_stands r e f i in
         fails s c 2 c low (omega arith)
-        (cut_short s c 5 i (row_comes s c a.phase) (rw (lt-ltb c.st.rows 600 l))
+        (cut_short_lem s c 5 i (row_comes s c a.phase) (rw (lt-ltb c.st.rows 600 l))
         (omega (arith, a.place, a.last (omega (arith, a.place)))))
 
     full : get_or s c.at 0 ≡ 5 → c.at < length s → 600 ≤ c.st.rows → Passes s c 5 c
