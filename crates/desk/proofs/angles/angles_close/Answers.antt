@@ -1,0 +1,7 @@
+-- `angles_close` meets its contract: the step tells whether the test passes, since W and n are in
+-- range.
+use Rattle.desk.proofs.Balancing.{angles_close}
+use Rattle.desk.proofs.angles.angles_close.Goals as goal
+
+pub returns : goal.returns
+returns c = search angles_close

@@ -1,0 +1,13 @@
+use borrow.Author.Rules.{rules}
+use mathlib.Core.Path.{refl}
+use Prim.Native.Nat.{◌-◌}
+use Rattle.desk.specs.Inside.{put_to}
+use Rattle.desk.proofs.Settling.{put_next}
+use Rattle.desk.proofs.coordinates.put_all.Goals as goal
+
+pub loop-k-init : goal.loop-k-init
+unfolding put_to
+loop-k-init c = (search rules, refl, refl)
+
+pub loop-k-preserved : goal.loop-k-preserved
+loop-k-preserved c = (search rules, search put_next, search rules)

@@ -1,0 +1,6 @@
+-- `sea_level` meets its contract: the step gives its value, since the elevation is in range.
+use Rattle.desk.proofs.Scaling.{sea_low, sea_high}
+use Rattle.desk.proofs.factor.sea_level.Goals as goal
+
+pub returns-clause-size : goal.returns-clause-size
+returns-clause-size c = (search sea_low, search sea_high)

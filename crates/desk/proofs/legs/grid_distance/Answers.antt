@@ -1,0 +1,10 @@
+-- `grid_distance` meets its contract: the step gives its value, since distance and factor are in
+-- range.
+use Rattle.desk.proofs.Running.{grid_is, grid_small}
+use Rattle.desk.proofs.legs.grid_distance.Goals as goal
+
+pub returns-clause-is : goal.returns-clause-is
+returns-clause-is c = search grid_is
+
+pub returns-clause-size : goal.returns-clause-size
+returns-clause-size c = search grid_small
