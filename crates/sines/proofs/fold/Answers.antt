@@ -10,7 +10,7 @@ pub returns-then-half-le-QUARTER_CIRCLE-clause-is : goal.returns-then-half-le-QU
 returns-then-half-le-QUARTER_CIRCLE-clause-is c =
     elim c.if-angle-gt-HALF_CIRCLE.branch [
       | then-angle-gt-HALF_CIRCLE w ↦
-        w.half-is ∙ third _ w.if-angle-gt-HALF_CIRCLE.true (omega arith)
+          w.half-is ∙ third _ w.if-angle-gt-HALF_CIRCLE.true (omega arith)
       | else-angle-gt-HALF_CIRCLE w ↦ w.half-is ∙ first _ (omega arith)
     ]
 
@@ -20,8 +20,8 @@ returns-clause-is c =
     let h = c.if-angle-gt-HALF_CIRCLE.half in
     elim c.if-angle-gt-HALF_CIRCLE.branch [
       | then-angle-gt-HALF_CIRCLE w ↦
-        let e : 6480000 - h ≡ 12960000 - a = omega arith in e ∙ fourth a (omega arith)
+          let e : 6480000 - h ≡ 12960000 - a = omega arith in e ∙ fourth a (omega arith)
       | else-angle-gt-HALF_CIRCLE w ↦
-        let e : 6480000 - h ≡ 6480000 - a = omega arith in
-        e ∙ second a (omega arith) w.if-angle-gt-HALF_CIRCLE.false
+          let e : 6480000 - h ≡ 6480000 - a = omega arith in
+          e ∙ second a (omega arith) w.if-angle-gt-HALF_CIRCLE.false
     ]
