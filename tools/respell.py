@@ -20,7 +20,7 @@ from pathlib import Path
 NAME = re.compile(r"[^\s(){}\[\],;.:=|`\"]+")
 DECLARED = re.compile(
     r"^\s*(?:(?:unfoldable|abbrev)\s+)*(?:pub\s+)?(?:(?:record|data|ruleset)\s+)?"
-    r"([^\s(){}\[\]:,;=.]+)(?:\s+[^:=]*)?\s+:\s"
+    r"([^\s(){}\[\]:,;=.]+)(?:\s+[^:=]*)?\s+:(?:\s|$)"
 )
 RULESET = re.compile(r"^\s*(?:pub\s+)?ruleset\s+(\S+)")
 BINDER = re.compile(r"[({]((?:[^\W\d][\w'-]*\s+)+):\s")
@@ -54,6 +54,8 @@ class Names:
         ]
         declared: dict[str, set[Path]] = defaultdict(set)
         for path in self.proofs:
+            if path.name in ("Answers.antt", "Invariants.antt"):
+                continue
             for line in path.read_text().splitlines():
                 if line.lstrip().startswith("--") or GOAL.search(line):
                     continue

@@ -36,7 +36,8 @@ after_it legs k = le-max_right k (legs - k)
 -- ---- a balanced traverse whose fields are in range
 module _ (b : Balanced) (sound : Sound b) (axis : Axis) (k : ℕ) (h : k ≤ b.legs) where
   leg_off : (i : ℕ) → i < b.legs
-      → 100 * nat_abs ((exact_line axis b).move i -ℤ pos fine *ℤ (line entry axis b).move i) ≤ per_leg *
+      → 100 * nat_abs ((exact_line axis b).move i -ℤ pos fine *ℤ (line entry axis b).move i) ≤
+      per_leg *
       fine
   leg_off i low = let leg = sound.leg i low in
       leg_near axis (long_of b i) (azimuth_of b i) (grid_most _ _ leg.near leg.most)

@@ -114,7 +114,8 @@ module _ (tape out left : List ℕ) (r : ℕ) (room : 4096 ≤ length out)
     (long : r ≡ length (printed_in tape (length out)))
     (bytes : left ≡ over (printed_in tape (length out)) out)
     (accepts : (answered entry tape).number ≡ 0) (k : ℕ) (h : k ≤ (traverse_of tape).legs) where
-  text_printed : printed_in tape (length out) ≡ text_of (answered entry tape) (sheet_words entry tape)
+  text_printed : printed_in tape (length out)
+      ≡ text_of (answered entry tape) (sheet_words entry tape)
   unfolding printed printed_of
   text_printed = rw (le-ltb (length out) 4096 room, eq-eqb (answered entry tape).number 0 accepts)
 

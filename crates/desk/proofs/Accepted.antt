@@ -69,7 +69,8 @@ module _ (e : ℕ → ℤ) (tape : List ℕ) (room : ℕ) where
   accepted = by_test ShownAfter (ltb room 130) (λ few z. absurd (omega arith))
       (λ wide. go (reading_of tape) refl (ltb-false room 130 wide))
     where
-      go : (r : Reading) → reading_of tape ≡ r → 130 ≤ room → ShownAfter (first_if r (fields_of tape))
+      go : (r : Reading) → reading_of tape ≡ r → 130 ≤ room
+          → ShownAfter (first_if r (fields_of tape))
       go (reading.Refused n p) h wide = λ z. absurd (omega (arith, (reading_number tape n p h).0))
       go (reading.Reads st) h wide =
           by_test ShownAfter (closes_angles (misclosure_of (fields_of tape))
@@ -102,7 +103,8 @@ module _ (e : ℕ → ℤ) (tape : List ℕ) (room : ℕ) where
       go (reading.Reads st) h =
           by_test NineAfter (closes_angles (misclosure_of (fields_of tape))
           (fields_of tape).line.legs)
-          (λ a. by_test Nine (closes_on e (balanced_tape tape)) (λ c. omega arith) (λ c. omega arith))
+          (λ a. by_test Nine (closes_on e (balanced_tape tape)) (λ c. omega arith)
+          (λ c. omega arith))
           (λ a. omega arith)
 
   -- and the answer is that of the second step
@@ -111,7 +113,8 @@ module _ (e : ℕ → ℤ) (tape : List ℕ) (room : ℕ) where
   unfolding traversed_by first_for first_of checked_angles
   accepted_told a = rw (le-ltb room 130 a.wide, a.reads.reads, a.angles)
 
-  pub accepted_legs : Accepted e tape room → (traversed_by e tape room).legs ≡ (balanced_tape tape).legs
+  pub accepted_legs : Accepted e tape room
+      → (traversed_by e tape room).legs ≡ (balanced_tape tape).legs
   unfolding adjusted_traverse
   accepted_legs a = rw (accepted_told a, a.closes)
 
@@ -157,7 +160,8 @@ module _ (e : ℕ → ℤ) (tape : List ℕ) (words : List ℤ)
   accepted_words = rw (le-ltb (length words) 130 a.wide, a.reads.reads, a.angles, a.closes)
 
   pub station : (axis : Axis) (k : ℕ) → k ≤ b.legs
-      → get_or (traversed_words_by e tape words) (word_index axis k) (pos 0) ≡ adjusted (line e axis b) k
+      → get_or (traversed_words_by e tape words) (word_index axis k) (pos 0)
+      ≡ adjusted (line e axis b) k
   station axis k h = rw accepted_words
       (word_at e b words axis (b.legs + 1) k (omega arith) (omega (arith, sound.few, a.wide)))
 

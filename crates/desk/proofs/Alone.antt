@@ -77,7 +77,8 @@ module _ (e : ℕ → ℤ) (b : Balanced) where
   unfolding adjusted_traverse area_of
   same_second h = rw (same_test, h, offsets_bare b.legs)
 
-  same_words : (words : List ℤ) → adjusted_words e b words ≡ adjusted_words e (bare_traverse b) words
+  same_words : (words : List ℤ)
+      → adjusted_words e b words ≡ adjusted_words e (bare_traverse b) words
   unfolding adjusted_words
   same_words words = rw (same_test, placed_bare (b.legs + 1) words)
 
@@ -102,7 +103,8 @@ module _ (e : ℕ → ℤ) (f : Fields) where
   words_from words = cond (closes_angles (misclosure_of f) f.line.legs)
       (adjusted_words e b words) words
 
-  words_from_lem : (words : List ℤ) → words_after_first e (checked_angles f) words ≡ words_from words
+  words_from_lem : (words : List ℤ)
+      → words_after_first e (checked_angles f) words ≡ words_from words
   unfolding checked_angles
   words_from_lem words = go (closes_angles (misclosure_of f) f.line.legs)
     where

@@ -21,7 +21,8 @@ module _ (l : List ℤ) (n : ℕ) (x y : ℤ) where
       (2 * n) i x (pos 0) e
 
   pub own : (axis : Axis) → 2 * n + 1 < length l
-      → get_or (set (set l (2 * n) x) (2 * n + 1) y) (word_index axis n) (pos 0) ≡ along_pair axis x y
+      → get_or (set (set l (2 * n) x) (2 * n + 1) y) (word_index axis n) (pos 0)
+      ≡ along_pair axis x y
   own north h = get_or-set_other (set l (2 * n) x) (2 * n + 1) (2 * n) y (pos 0) (λ e. omega arith)
       ∙ get_or-set_same l (2 * n) x (pos 0) (omega arith)
   own east h = get_or-set_same (set l (2 * n) x) (2 * n + 1) y (pos 0)

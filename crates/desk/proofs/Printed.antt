@@ -9,7 +9,8 @@ use lib.IntN.{ℤ, pos, neg_ℤ}
 use Rattle.whole.specs.Nearest.{nearest}
 use Rattle.whole.specs.Sum.{sum_to}
 use Rattle.minutes.specs.Entry.{entry}
-use Rattle.minutes.specs.Exact.{exact_sine, exact_quarter, by_series, series, weight, unity, straight}
+use Rattle.minutes.specs.Exact.{exact_sine, exact_quarter, by_series, series, weight, unity}
+use Rattle.minutes.specs.Exact.{straight}
 use Rattle.minutes.specs.Exact.{pi, factorial}
 use Rattle.minutes.specs.Quadrant.{around, signed_by, folded}
 use Rattle.sines.specs.Sine.{between, quarter_by, sine_by}
@@ -20,8 +21,10 @@ use Rattle.steps.specs.Course.{move, sine_along}
 use Rattle.steps.specs.Distance.{sea_level, combine, grid}
 use Rattle.steps.specs.Share.{share}
 use Rattle.records.specs.Bytes.{num, bytes, meant, written}
-use Rattle.records.specs.Record.{Rec, rec, table, kind_fields, body_of, numbers_of, good_of, bytes_of}
-use Rattle.tape.specs.Tape.{may_come, room_of, row_next, project_next, after_of, take_of, judge, step_of}
+use Rattle.records.specs.Record.{Rec, rec, table, kind_fields, body_of, numbers_of, good_of}
+use Rattle.records.specs.Record.{bytes_of}
+use Rattle.tape.specs.Tape.{may_come, room_of, row_next, project_next, after_of, take_of, judge}
+use Rattle.tape.specs.Tape.{step_of}
 use Rattle.tape.specs.Tape.{walk, reading_of, records_from, tape_of}
 use Rattle.tape.specs.Fields.{pick, place_of, angle_of, distance_of, is_row, scale_of, picked}
 use Rattle.desk.specs.Line.{run, preliminary, adjusted}
@@ -63,11 +66,13 @@ answer = record {
 }
 
 pub printed_told : traversed (tape_of records) 130 ≡ answer
-unfolding nearest sum_to exact_sine exact_quarter by_series series weight unity straight pi factorial
+unfolding nearest sum_to exact_sine exact_quarter by_series series weight unity straight pi
+    factorial
     around signed_by folded entry between quarter_by sine_by cross next_station doubled_to turn
     misclosure closes_angles balanced closes root precision move sine_along sea_level combine
     grid share num bytes meant written table kind_fields body_of numbers_of good_of bytes_of
-    may_come room_of row_next project_next after_of take_of judge step_of walk reading_of records_from
+    may_come room_of row_next project_next after_of take_of judge step_of walk reading_of
+    records_from
     tape_of pick place_of angle_of distance_of is_row scale_of picked run preliminary adjusted
     with_stations offsets_to area_of carried misclosure_of balanced_at filled balanced_traverse
     checked_angles first_of first_for closes_on adjusted_traverse traversed_by
@@ -80,10 +85,12 @@ stations = pos 5000000 ∷ pos 200000000 ∷ pos 5100000 ∷ pos 200000000 ∷ p
 
 pub printed_words : (z : ℤ)
     → traversed_words (tape_of records) (replicate 130 z) ≡ stations ++ replicate 120 z
-unfolding nearest sum_to exact_sine exact_quarter by_series series weight unity straight pi factorial
+unfolding nearest sum_to exact_sine exact_quarter by_series series weight unity straight pi
+    factorial
     around signed_by folded entry between quarter_by sine_by turn misclosure closes_angles balanced
     closes move sine_along sea_level combine grid share num bytes meant written table kind_fields
-    body_of numbers_of good_of bytes_of may_come room_of row_next project_next after_of take_of judge
+    body_of numbers_of good_of bytes_of may_come room_of row_next project_next after_of take_of
+    judge
     step_of walk reading_of records_from tape_of pick place_of angle_of distance_of is_row scale_of
     picked run preliminary adjusted with_stations carried misclosure_of balanced_at filled
     balanced_traverse checked_angles first_of first_for closes_on adjusted_words traversed_words_by

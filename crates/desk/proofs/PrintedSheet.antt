@@ -59,5 +59,6 @@ printed_sheet =
     (printed_of answer) (printed_words (pos 0)) ∙ figures
 
 pub printed_refusal : printed [] ≡ ascii "REFUSED 2\n"
-unfolding traversed_by first_for first_of reading_of walk digits digit_count_in decimal printed_of printed
+unfolding traversed_by first_for first_of reading_of walk digits digit_count_in decimal printed_of
+    printed
 printed_refusal = refl

@@ -31,7 +31,8 @@ module _ (e : ℕ → ℤ) (words : List ℤ) where
       (λ c. absurd (some (rw c)))
       (λ c. refl)
 
-  first_kept : (x : First) → ((after_first e x).number ≡ 0 → ⊥) → words_after_first e x words ≡ words
+  first_kept : (x : First) → ((after_first e x).number ≡ 0 → ⊥)
+      → words_after_first e x words ≡ words
   first_kept (stopped n p) some = refl
   first_kept (good b) some = second_kept b some
 

@@ -28,7 +28,8 @@ use Rattle.desk.proofs.Balancing.{leg_azimuth}
 use Rattle.desk.proofs.Settling.{run_small}
 
 module _ (e : ℕ → ℤ) (tape : List ℕ) (room : ℕ) (x : Answer)
-    (tells : told_traverse x ≡ traversed_by e tape room) (accepts : (told_traverse x).number ≡ 0) where
+    (tells : told_traverse x ≡ traversed_by e tape room)
+    (accepts : (told_traverse x).number ≡ 0) where
   abbrev f : Fields
   f = fields_of tape
 
@@ -57,11 +58,11 @@ module _ (e : ℕ → ℤ) (tape : List ℕ) (room : ℕ) (x : Answer)
   few = sound.few
 
   -- "Misclosure W = carried less given", of the closing azimuth
-  pub misclosure-rule :
+  pub misclosure_rule :
       Misclosure (carried (turns_of f) (told_traverse x).legs) f.closing.given
       (told_traverse x).w
   unfolding misclosure_of
-  misclosure-rule =
+  misclosure_rule =
       rw (legs_are, w_is) (misclosure_is (carried (turns_of f) f.line.legs) f.closing.given)
 
   -- "the balanced azimuth of leg j is the carried one less that share, modulo the circle": leg k,
@@ -77,11 +78,11 @@ module _ (e : ℕ → ℤ) (tape : List ℕ) (room : ℕ) (x : Answer)
 
   -- "the largest whole P with P squared x 100 x (C_N squared + C_E squared) at most S squared", of
   -- the answer's own closures and of the whole grid distance run
-  pub precision-rule :
+  pub precision_rule :
       Precision (told_traverse x).north_closure (told_traverse x).east_closure (distance_run b)
       (told_traverse x).precision
   unfolding adjusted_traverse
-  precision-rule =
+  precision_rule =
       let small = run_small b sound in
       rw (is_second, a.closes)
       (precision_is (north_closure e b) (east_closure e b) (distance_run b) (omega arith))

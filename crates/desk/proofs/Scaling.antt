@@ -66,7 +66,8 @@ combined_range z scale good least most = let s = sea_range z good in
     combined_most (sea_level z) scale s.0 s.1 least most
 
 -- ---- the steps, whose input is in range
-module _ (r : Count) (n : ℕ) (z : ℤ) (good : (le_z (neg_ℤ (pos 1000)) z && le_z z (pos 20000)) ≡ true)
+module _ (r : Count) (n : ℕ) (z : ℤ)
+    (good : (le_z (neg_ℤ (pos 1000)) z && le_z z (pos 20000)) ≡ true)
     (t : told_count r ≡ sea_level_step z) (f : pos n ≡ (told_count r).value) where
   pub sea_is : n ≡ sea_level z
   sea_is = ap nat_abs (f ∙ value_given (told_count r) _ _ t good)

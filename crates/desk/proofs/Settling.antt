@@ -76,7 +76,8 @@ precision_value r p n e s t f hn he low high =
     (both _ _ (both _ _ (le-leb (nat_abs n) 26000 hn) (le-leb (nat_abs e) 26000 he))
     (inside_yes 1 1300000000 s low high)))
 
-module _ (r : Amount) (v closure : ℤ) (part all : ℕ) (t : told_amount r ≡ share_step closure part all)
+module _ (r : Amount) (v closure : ℤ) (part all : ℕ)
+    (t : told_amount r ≡ share_step closure part all)
     (f : v ≡ (told_amount r).value)
     (small : nat_abs closure ≤ 26000) (h : part ≤ all) (low : 1 ≤ all)
     (high : all ≤ 1300000000) where
@@ -124,7 +125,8 @@ module _ (b : Balanced) (sound : Sound b) where
       north_near (closes_on e b) (north_closure e b) (east_closure e b)
       (distance_run b) refl t run_small
   closes_near e east t =
-      east_near (closes_on e b) (north_closure e b) (east_closure e b) (distance_run b) refl t run_small
+      east_near (closes_on e b) (north_closure e b) (east_closure e b) (distance_run b) refl t
+      run_small
 
 -- what is left, from the code's two differences
 pub left_is : (to : Point) (end : Sums) (c : Closure) (q r : ℤ) → q ≡ pos to.north

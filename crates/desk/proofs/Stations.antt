@@ -39,7 +39,8 @@ use Rattle.desk.proofs.Words.{word_at}
 small_append : (xs ys : List ℤ) → good_offsets ys ≡ true → good_offsets (xs ++ ys) ≡ good_offsets xs
 unfolding good_offsets
 small_append [] ys e = e
-small_append (z ∷ zs) ys e = ap (λ (t : Bool). leb (nat_abs z) 130000000 && t) (small_append zs ys e)
+small_append (z ∷ zs) ys e = ap (λ (t : Bool). leb (nat_abs z) 130000000 && t)
+    (small_append zs ys e)
 
 small_two : (y z : ℤ) → nat_abs y ≤ 130000000 → nat_abs z ≤ 130000000
     → good_offsets (y ∷ z ∷ []) ≡ true

@@ -111,7 +111,8 @@ known_is tape t b f c h = let k = took tape c (sym f ∙ h) in
 
 module _ (e : ℕ → ℤ) (tape : List ℕ) (words : List ℤ) where
   module _ (wide : 130 ≤ length words) (c : Control) (known : Known tape c) where
-    pub known_told : (r : Answer) → told_traverse r ≡ after_first e (checked_angles (fields_of tape))
+    pub known_told : (r : Answer)
+        → told_traverse r ≡ after_first e (checked_angles (fields_of tape))
         → told_traverse r ≡ traversed_by e tape (length words)
     unfolding traversed_by first_for first_of
     known_told r g = rw (le-ltb (length words) 130 wide, known.reads.reads) g
@@ -141,10 +142,12 @@ module _ (e : ℕ → ℤ) (tape : List ℕ) (words : List ℤ) where
       refused_words = rw (le-ltb (length words) 130 wide, took_not tape n p (sym f ∙ h))
 
     module _ (bytes : AllBytes tape) (c : Control) (h : t ≡ taken.Reads c) where
-      pub good_told : (r : Answer) → told_traverse r ≡ after_first e (checked_angles (fields_of tape))
+      pub good_told : (r : Answer)
+          → told_traverse r ≡ after_first e (checked_angles (fields_of tape))
           → told_traverse r ≡ traversed_by e tape (length words)
       good_told = known_told wide c (known_is tape t bytes f c h)
 
-      pub good_words : (l : List ℤ) → l ≡ words_after_first e (checked_angles (fields_of tape)) words
+      pub good_words : (l : List ℤ)
+          → l ≡ words_after_first e (checked_angles (fields_of tape)) words
           → l ≡ traversed_words_by e tape words
       good_words = known_words wide c (known_is tape t bytes f c h)

@@ -19,7 +19,8 @@ use Rattle.desk.proofs.Settling.{far_run, placed_length}
 
 module _ (e : ℕ → ℤ) (b : Balanced) (l : List ℤ) where
   -- after the stations nothing changes
-  pub words_later : (n i : ℕ) → 2 * n ≤ i → get_or (with_stations e b n l) i (pos 0) ≡ get_or l i (pos 0)
+  pub words_later : (n i : ℕ) → 2 * n ≤ i
+      → get_or (with_stations e b n l) i (pos 0) ≡ get_or l i (pos 0)
   unfolding with_stations
   words_later zero i h = refl
   words_later (suc n) i h =

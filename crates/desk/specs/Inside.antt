@@ -1,7 +1,9 @@
 -- docs/RULES.md, "Definitions that state no rule": what the private functions promise one another,
 -- which is the ranges of a balanced traverse, what the sums hold at a station, and when an answer
 -- can be shown. The public promises do not mention any of it.
-use Rattle.std.specs.Prelude.{ℕ, zero, suc, ◌+◌, ◌*◌, ◌^◌, ◌≤◌, ◌<◌, ◌≡◌, true, cond, ◌&&◌, List, [], ◌∷◌, ◌++◌, length, get_or, set, ℤ, pos, neg_ℤ, nat_abs, ◌+ℤ◌, ◌-ℤ◌}
+use Rattle.std.specs.Prelude.{ℕ, zero, suc, ◌+◌, ◌*◌, ◌^◌, ◌≤◌, ◌<◌, ◌≡◌, true, cond, ◌&&◌, List}
+use Rattle.std.specs.Prelude.{[], ◌∷◌, ◌++◌, length, get_or, set, ℤ, pos, neg_ℤ, nat_abs, ◌+ℤ◌}
+use Rattle.std.specs.Prelude.{◌-ℤ◌}
 use Rattle.std.specs.Int.Signed.{le_z}
 use Rattle.answer.specs.Limit.{most_legs, lowest, highest, least_factor, most_factor}
 use Rattle.answer.specs.Limit.{least_distance, most_distance, most_coordinate}

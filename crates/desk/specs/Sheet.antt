@@ -1,6 +1,7 @@
 -- docs/RULES.md, "The sheet, and one printed whole" and "Nine refusals": the text of an accepted
 -- tape, line by line, and what the sheet step answers and leaves in the lent bytes.
-use Rattle.std.specs.Prelude.{ℕ, zero, suc, ◌+◌, Bool, cond, List, [], ◌++◌, ◌≡◌, ltb, eqb, length, get_or, drop, replicate, ℤ, pos}
+use Rattle.std.specs.Prelude.{ℕ, zero, suc, ◌+◌, Bool, cond, List, [], ◌++◌, ◌≡◌, ltb, eqb, length}
+use Rattle.std.specs.Prelude.{get_or, drop, replicate, ℤ, pos}
 use Rattle.answer.specs.Refusal.{no_room}
 use Rattle.steps.specs.Course.{north, east}
 use Rattle.minutes.specs.Entry.{entry}
@@ -41,7 +42,8 @@ station_line k n e =
 -- the line of station k, whose coordinates are in the words, and the lines of the first k stations
 unfoldable pub line_of : List ℤ → ℕ → List ℕ
 line_of words k =
-    station_line k (get_or words (word_index north k) (pos 0)) (get_or words (word_index east k) (pos 0))
+    station_line k (get_or words (word_index north k) (pos 0))
+    (get_or words (word_index east k) (pos 0))
 
 unfoldable pub station_lines : List ℤ → ℕ → List ℕ
 station_lines words zero = []

@@ -1,6 +1,7 @@
 -- docs/RULES.md, "Azimuths and legs", "Closure and compass rule" and "Doubled area", of a traverse
 -- whose angles are balanced: its two coordinates as lines.
-use Rattle.std.specs.Prelude.{Bool, cond, ◌&&◌, List, [], ◌∷◌, ◌++◌, ℕ, zero, suc, ◌+◌, ◌*◌, eqb, get_or, set, ℤ, pos, ◌-ℤ◌}
+use Rattle.std.specs.Prelude.{Bool, cond, ◌&&◌, List, [], ◌∷◌, ◌++◌, ℕ, zero, suc, ◌+◌, ◌*◌, eqb}
+use Rattle.std.specs.Prelude.{get_or, set, ℤ, pos, ◌-ℤ◌}
 use Rattle.steps.specs.Area.{doubled}
 use Rattle.steps.specs.Course.{Axis, north, east, course}
 use Rattle.steps.specs.Distance.{grid}

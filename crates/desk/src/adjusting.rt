@@ -26,8 +26,10 @@ fn closures(
     runs: &mut [u64],
 ) -> Closure
     requires sound { Sound (with_legs b azimuths.now distances.now) }
-    requires most_legs_in_bounds { (most_legs ≤ length azimuths.now) × (most_legs ≤ length distances.now) }
-    requires station_words_in_bounds { (station_words ≤ length spots.old) × (most_stations ≤ length runs.old) }
+    requires most_legs_in_bounds { (most_legs ≤ length azimuths.now)
+        × (most_legs ≤ length distances.now) }
+    requires station_words_in_bounds { (station_words ≤ length spots.old)
+        × (most_stations ≤ length runs.old) }
     ensures { Ended (entry_in table.now)
         (with_legs b azimuths.now distances.now)
         spots.new runs.new result }
@@ -74,7 +76,8 @@ pub fn settle(
     words: &mut [i64],
 ) -> Answer
     requires sound { Sound (with_legs b azimuths.now distances.now) }
-    requires most_legs_in_bounds { (most_legs ≤ length azimuths.now) × (most_legs ≤ length distances.now) }
+    requires most_legs_in_bounds { (most_legs ≤ length azimuths.now)
+        × (most_legs ≤ length distances.now) }
     requires station_words_in_bounds { station_words ≤ length words.old }
     ensures answer { told_traverse result
         ≡ adjusted_traverse (entry_in table.now)

@@ -1,5 +1,6 @@
 // The doubled area of a loop, from the stations' words.
-ghost use Rattle.std.specs.Prelude.{◌≡◌, cond, ◌+◌, ◌*◌, ◌≤◌, ◌<◌, length, pos, nat_abs, ◌-ℤ◌, ◌*ℤ◌};
+ghost use Rattle.std.specs.Prelude.{◌≡◌, cond, ◌+◌, ◌*◌, ◌≤◌, ◌<◌, length, pos, nat_abs, ◌-ℤ◌};
+ghost use Rattle.std.specs.Prelude.{◌*ℤ◌};
 ghost use Rattle.steps.specs.Area.{most_offset, doubled};
 ghost use Rattle.desk.specs.Traverse.{same};
 ghost use Rattle.desk.specs.Inside.{sum_bound, word_at, taken_from, TakenAt, Ranged, AreaRanged};

@@ -16,7 +16,8 @@ fn sea_level(elevation: Whole) -> u64
 }
 
 pub fn combined(elevation: Whole, scale: u32) -> u32
-    requires highest_value { (le_z (neg_ℤ (pos lowest)) elevation.v && le_z elevation.v (pos highest))
+    requires highest_value { (le_z (neg_ℤ (pos lowest)) elevation.v
+        && le_z elevation.v (pos highest))
         ≡ true }
     requires least_factor_le_scale { (least_factor ≤ scale) × (scale ≤ most_factor) }
     ensures { result ≡ combine (sea_level elevation.v) scale }

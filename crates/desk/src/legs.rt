@@ -84,8 +84,10 @@ pub fn run_all(
     runs: &mut [u64],
 ) -> Sums
     requires sound { Sound (with_legs b azimuths.now distances.now) }
-    requires most_legs_in_bounds { (most_legs ≤ length azimuths.now) × (most_legs ≤ length distances.now) }
-    requires station_words_in_bounds { (station_words ≤ length spots.old) × (most_stations ≤ length runs.old) }
+    requires most_legs_in_bounds { (most_legs ≤ length azimuths.now)
+        × (most_legs ≤ length distances.now) }
+    requires station_words_in_bounds { (station_words ≤ length spots.old)
+        × (most_stations ≤ length runs.old) }
     ensures kept { Ran (entry_in table.now)
         (with_legs b azimuths.now distances.now)
         b.legs spots.new runs.new }

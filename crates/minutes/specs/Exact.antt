@@ -1,6 +1,7 @@
 -- docs/RULES.md, "Sines": the exact sine, as an exact fraction. Each is a numerator over one common
 -- denominator, `unity`, which is the sine of 90 degrees.
-use Rattle.std.specs.Prelude.{Bool, true, false, List, [], ◌∷◌, ℕ, zero, suc, ◌-◌, ◌*◌, ◌/◌, ◌^◌, ◌≤◌, leb, ℤ, pos, nat_abs, ◌-ℤ◌, ◌*ℤ◌}
+use Rattle.std.specs.Prelude.{Bool, true, false, List, [], ◌∷◌, ℕ, zero, suc, ◌-◌, ◌*◌, ◌/◌, ◌^◌}
+use Rattle.std.specs.Prelude.{◌≤◌, leb, ℤ, pos, nat_abs, ◌-ℤ◌, ◌*ℤ◌}
 use Rattle.minutes.specs.Quadrant.{half_circle, quarter_circle, around, quarter_ahead}
 
 -- "Radians use pi = 3.14159265358979323846": `pi` over 10 ^ 20

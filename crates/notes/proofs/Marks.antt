@@ -24,12 +24,20 @@ module _ (text : List ℕ) where
       pub other_second : (get_or text 1 0 ≡ 187 → ⊥) → false ≡ starts_with_bom text
       unfolding starts_with_bom
       other_second n =
-          rw (le-leb 3 (length text) h, eq-eqb (get_or text 0 0) 239 e, ne_eqb (get_or text 1 0) 187 n)
+          rw (
+            le-leb 3 (length text) h,
+            eq-eqb (get_or text 0 0) 239 e,
+            ne_eqb (get_or text 1 0) 187 n,
+          )
 
       pub only_third : get_or text 1 0 ≡ 187 → eqb (get_or text 2 0) 191 ≡ starts_with_bom text
       unfolding starts_with_bom
       only_third f =
-          rw (le-leb 3 (length text) h, eq-eqb (get_or text 0 0) 239 e, eq-eqb (get_or text 1 0) 187 f)
+          rw (
+            le-leb 3 (length text) h,
+            eq-eqb (get_or text 0 0) 239 e,
+            eq-eqb (get_or text 1 0) 187 f,
+          )
 
   module _ (b : Bool) (e : b ≡ starts_with_bom text) where
     pub bom_room : b ≡ true → 3 ≤ length text

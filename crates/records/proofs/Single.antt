@@ -20,7 +20,8 @@ pub fields_good_single : (kind : ℕ) (vs : List ℤ) (x y : Bool) → x ≡ goo
 fields_good_single kind vs x y e f = e ∙ sym f
 
 -- `kind`
-pub kind_single : (given : Record) (x y : ℕ) → x ≡ (rec_of given).kind → y ≡ (rec_of given).kind → x ≡ y
+pub kind_single : (given : Record) (x y : ℕ) → x ≡ (rec_of given).kind → y ≡ (rec_of given).kind
+    → x ≡ y
 kind_single given x y e f = e ∙ sym f
 
 -- `good`

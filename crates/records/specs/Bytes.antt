@@ -1,6 +1,7 @@
 -- docs/RULES.md, "The tape": numbers of two and four bytes, "unsigned, high byte first, except the
 -- elevation, which is two's complement".
-use Rattle.std.specs.Prelude.{cond, List, [], ◌∷◌, ℕ, suc, ◌+◌, ◌-◌, ◌*◌, ◌/◌, ◌%◌, ltb, get_or, ℤ, pos, negsuc}
+use Rattle.std.specs.Prelude.{cond, List, [], ◌∷◌, ℕ, suc, ◌+◌, ◌-◌, ◌*◌, ◌/◌, ◌%◌, ltb, get_or, ℤ}
+use Rattle.std.specs.Prelude.{pos, negsuc}
 
 pub data Width : Type 0 where
   two four : Width

@@ -1,6 +1,7 @@
 -- docs/RULES.md, "The tape": the table of kinds as data, and from it the length, the fields, the
 -- ranges and the bytes of a record.
-use Rattle.std.specs.Prelude.{Bool, true, false, cond, ◌&&◌, List, [], ◌∷◌, ◌++◌, ℕ, ◌+◌, ◌-◌, eqb, ℤ, pos, neg_ℤ}
+use Rattle.std.specs.Prelude.{Bool, true, false, cond, ◌&&◌, List, [], ◌∷◌, ◌++◌, ℕ, ◌+◌, ◌-◌, eqb}
+use Rattle.std.specs.Prelude.{ℤ, pos, neg_ℤ}
 use Rattle.std.specs.Int.Signed.{le_z}
 use Rattle.answer.specs.Limit.{least_factor, most_factor, least_distance, most_distance}
 use Rattle.answer.specs.Limit.{lowest, highest, most_coordinate}

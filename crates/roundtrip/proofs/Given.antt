@@ -11,7 +11,8 @@ use Rattle.records.specs.declared.Record.{Record}
 use Rattle.records.specs.declared.Record.TheVariants as kinds
 use Rattle.records.specs.Bytes.{two, four, num, bytes, twosComplement, meant, written}
 use Rattle.records.specs.Record.{Rec, rec, row_kind, project_kind, start_kind, leg_kind, close_kind}
-use Rattle.records.specs.Record.{table, kind_fields, numbers_of, good_of, bytes_of, rec_of, good_record}
+use Rattle.records.specs.Record.{table, kind_fields, numbers_of, good_of, bytes_of, rec_of}
+use Rattle.records.specs.Record.{good_record}
 use Rattle.records.proofs.Bodies.{project_feet}
 use Rattle.tape.specs.Tape.{records_of}
 use Rattle.tape.specs.Fields.{number_at, DoesRead}

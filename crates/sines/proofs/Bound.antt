@@ -55,7 +55,8 @@ minute r s e f v x x₀ x₁ rs he hf hv hc =
     let b = pos s *ℤ e +ℤ pos r *ℤ f -ℤ pos 600 *ℤ v in
     let c = pos 1000000000 *ℤ x₀ -ℤ e *ℤ pos unity in
     let d = pos 1000000000 *ℤ x₁ -ℤ f *ℤ pos unity in
-    sum (nat_abs (v *ℤ pos unity -ℤ pos 1000000000 *ℤ x)) (nat_abs a) (nat_abs b) (nat_abs c) (nat_abs d)
+    sum (nat_abs (v *ℤ pos unity -ℤ pos 1000000000 *ℤ x)) (nat_abs a) (nat_abs b) (nat_abs c)
+    (nat_abs d)
     (omega (
       arith,
       ap nat_abs (parts unity 1000000000 r s e f v x x₀ x₁),
@@ -115,7 +116,8 @@ low_entry : (m : ℕ) → m ≤ 2700 → Half (entry m) (series sine_powers (600
 low_entry m h = rw (by_sine (600 * m) (omega arith)) at (entry_half m (omega arith))
 
 middle_entry : Half (entry 2700) (series cosine_powers 1620000)
-unfolding Half entry nearest exact_sine around signed_by folded exact_quarter by_series series weight
+unfolding Half entry nearest exact_sine around signed_by folded exact_quarter by_series series
+    weight
     unity straight pi factorial
 middle_entry = lit≤ tt
 

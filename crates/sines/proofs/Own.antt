@@ -64,7 +64,8 @@ own_entries t right = fun_ext same
 
 -- ---- the line between two entries as the code takes them
 pub lent_line : (m r x y v : ℕ) → pos v ≡ between (pos x) (pos y) r
-    → (t : List ℕ) → x ≡ min (get_or t m 0) nine_decimals → y ≡ min (get_or t (m + 1) 0) nine_decimals
+    → (t : List ℕ) → x ≡ min (get_or t m 0) nine_decimals
+    → y ≡ min (get_or t (m + 1) 0) nine_decimals
     → m < last_minute
     → pos v ≡ between (entry_in t m) (entry_in t (m + 1)) r
 lent_line m r x y v g t e f h =
@@ -87,7 +88,8 @@ module _ (t : List ℕ) (right : Table t) (a : ℕ) (r : Amount) where
 
 -- ---- no sine is above 1
 module _ (e : ℕ → ℤ) (entries : Entries e) where
-  pub quarter_size : (a : ℕ) → a ≤ 3240000 → (n : ℕ) × (quarter_by e a ≡ pos n) × (n ≤ nine_decimals)
+  pub quarter_size : (a : ℕ) → a ≤ 3240000 → (n : ℕ) × (quarter_by e a ≡ pos n)
+      × (n ≤ nine_decimals)
   unfolding quarter_by
   quarter_size a h =
       let x = entries.each (a / 600) (omega arith) in

@@ -10,7 +10,8 @@ use Rattle.sines.specs.declared.Turned.{Turned}
 
 -- `sine` and `cosine`, and with the entries of a lent table `sine_in` and `cosine_in`
 module _ (e : ℕ → ℤ) (a : ℕ) (x y : Amount) where
-  pub sine_single : told_amount x ≡ of_angle a (sine_by e a) → told_amount y ≡ of_angle a (sine_by e a)
+  pub sine_single : told_amount x ≡ of_angle a (sine_by e a)
+      → told_amount y ≡ of_angle a (sine_by e a)
       → x ≡ y
   sine_single = amounts_coincide (of_angle a (sine_by e a)) x y
 
@@ -19,5 +20,6 @@ module _ (e : ℕ → ℤ) (a : ℕ) (x y : Amount) where
   cosine_single = amounts_coincide (of_angle a (cosine_by e a)) x y
 
 -- `sides_in`
-pub sides_single : (e : ℕ → ℤ) (a : ℕ) (x y : Turned) → x ≡ turned_by e a → y ≡ turned_by e a → x ≡ y
+pub sides_single : (e : ℕ → ℤ) (a : ℕ) (x y : Turned) → x ≡ turned_by e a → y ≡ turned_by e a
+    → x ≡ y
 sides_single e a x y p q = p ∙ sym q

@@ -1,6 +1,7 @@
 -- docs/RULES.md, "Sines": the interpolation between the entries of the table, and what the steps
 -- answer.
-use Rattle.std.specs.Prelude.{cond, List, ℕ, ◌+◌, ◌/◌, ◌%◌, min, leb, ltb, get_or, ℤ, pos, nat_abs, ◌+ℤ◌, ◌-ℤ◌, ◌*ℤ◌}
+use Rattle.std.specs.Prelude.{cond, List, ℕ, ◌+◌, ◌/◌, ◌%◌, min, leb, ltb, get_or, ℤ, pos, nat_abs}
+use Rattle.std.specs.Prelude.{◌+ℤ◌, ◌-ℤ◌, ◌*ℤ◌}
 use Rattle.whole.specs.Nearest.{nearest}
 use Rattle.answer.specs.Refusal.{out_of_range}
 use Rattle.answer.specs.Told.{ToldStep, given, refused, in_range}

@@ -10,7 +10,8 @@ use Rattle.whole.specs.Nearest.{nearest}
 use Rattle.whole.specs.Sum.{sum_to}
 use Rattle.answer.specs.Told.{ToldStep, given, inside}
 use Rattle.minutes.specs.Entry.{entry}
-use Rattle.minutes.specs.Exact.{exact_sine, exact_quarter, by_series, series, weight, unity, straight}
+use Rattle.minutes.specs.Exact.{exact_sine, exact_quarter, by_series, series, weight, unity}
+use Rattle.minutes.specs.Exact.{straight}
 use Rattle.minutes.specs.Exact.{pi, factorial}
 use Rattle.minutes.specs.Quadrant.{around, signed_by, folded}
 use Rattle.sines.specs.Sine.{between, quarter_by, sine_by, of_angle}

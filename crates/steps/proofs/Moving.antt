@@ -40,7 +40,8 @@ module _ (distance size : ℕ) where
   product_small h k = product_most distance size 20100000 1000000000 h k
 
   module _ (n : ℕ) (is : n ≡ half_up (distance * size) 10000000000) (negative : Bool) (v : ℤ) where
-    pub by_negative : v ≡ pos n → negative ≡ true → v ≡ move distance (signed_by negative (pos size))
+    pub by_negative : v ≡ pos n → negative ≡ true
+        → v ≡ move distance (signed_by negative (pos size))
     unfolding move signed_by nearest
     by_negative e f = e ∙ rw (is, f, product)
       where
@@ -58,7 +59,8 @@ module _ (distance size : ℕ) where
 
 -- ---- what is told of a leg along an axis
 module _ (e : ℕ → ℤ) (axis : Axis) (distance azimuth : ℕ) where
-  pub too_long : 20100000 < distance → told_move axis OutOfRange ≡ course_step e axis distance azimuth
+  pub too_long : 20100000 < distance
+      → told_move axis OutOfRange ≡ course_step e axis distance azimuth
   unfolding told_move
   too_long h = rw (lt-leb distance 20100000 h)
 
@@ -80,7 +82,8 @@ abbrev side_along : Axis → Sides → ℤ
 side_along north s = signed_by s.back (pos s.cosine)
 side_along east s = signed_by s.past (pos s.sine)
 
-module _ (t : List ℕ) (azimuth : ℕ) (r : Turned) (s : Sides) (g : r ≡ turned_by (entry_in t) azimuth)
+module _ (t : List ℕ) (azimuth : ℕ) (r : Turned) (s : Sides)
+    (g : r ≡ turned_by (entry_in t) azimuth)
     (f : r ≡ turn.Are s) where
   pub sine_small : s.sine ≤ 1000000000
   sine_small = sine_most (entry_in t) (lent_entries t) azimuth s (sym f ∙ g)
@@ -134,7 +137,8 @@ module _ (distance : ℕ) (s : Amount) where
     unfolding told_amount
     size_small h = rw g (rw f at h)
 
-    pub move_told_lem : (v : Whole) (below : Bool) → v.v ≡ move distance (signed_by below (pos size))
+    pub move_told_lem : (v : Whole) (below : Bool)
+        → v.v ≡ move distance (signed_by below (pos size))
         → below ≡ lt_z w.v (pos 0) → distance ≤ 20100000
         → told_amount (amount.Is v) ≡ move_told distance (told_amount s)
     unfolding told_amount

@@ -1,5 +1,6 @@
 -- docs/RULES.md, "Doubled area": in units of 0.0001 square foot, clockwise positive.
-use Rattle.std.specs.Prelude.{Bool, true, ◌&&◌, List, [], ◌∷◌, ℕ, ◌+◌, ◌*◌, ◌/◌, ◌%◌, leb, eqb, length, get_or, ℤ, pos, nat_abs, ◌-ℤ◌, ◌*ℤ◌}
+use Rattle.std.specs.Prelude.{Bool, true, ◌&&◌, List, [], ◌∷◌, ℕ, ◌+◌, ◌*◌, ◌/◌, ◌%◌, leb, eqb}
+use Rattle.std.specs.Prelude.{length, get_or, ℤ, pos, nat_abs, ◌-ℤ◌, ◌*ℤ◌}
 use Rattle.whole.specs.Sum.{sum_to}
 use Rattle.answer.specs.Limit.{most_legs}
 use Rattle.answer.specs.Told.{ToldStep, in_range, inside}

@@ -1,6 +1,7 @@
 -- docs/RULES.md, "Azimuths and legs": azimuths run clockwise from south, in tenths of a second,
 -- modulo the circle.
-use Rattle.std.specs.Prelude.{◌≡◌, Bool, cond, ◌&&◌, ℕ, ◌+◌, ◌-◌, ◌*◌, ◌%◌, ◌<◌, leb, ltb, ℤ, pos, negsuc, neg_ℤ, nat_abs, ◌+ℤ◌, ◌-ℤ◌, ◌*ℤ◌}
+use Rattle.std.specs.Prelude.{◌≡◌, Bool, cond, ◌&&◌, ℕ, ◌+◌, ◌-◌, ◌*◌, ◌%◌, ◌<◌, leb, ltb, ℤ, pos}
+use Rattle.std.specs.Prelude.{negsuc, neg_ℤ, nat_abs, ◌+ℤ◌, ◌-ℤ◌, ◌*ℤ◌}
 use Rattle.whole.specs.Order.{◌≤ᶻ◌, ◌<ᶻ◌}
 use Rattle.answer.specs.Told.{ToldStep, in_range, inside, passes}
 use Rattle.answer.specs.Limit.{most_legs}

@@ -1,6 +1,7 @@
 -- docs/RULES.md, "Closure and compass rule" and "Precision number": the closure test and the
 -- precision number. Closures are in hundredths, S in thousandths of a foot.
-use Rattle.std.specs.Prelude.{◌≡◌, Bool, cond, ◌&&◌, ℕ, zero, suc, ◌+◌, ◌*◌, ◌/◌, ◌≤◌, leb, eqb, ℤ, pos, nat_abs}
+use Rattle.std.specs.Prelude.{◌≡◌, Bool, cond, ◌&&◌, ℕ, zero, suc, ◌+◌, ◌*◌, ◌/◌, ◌≤◌, leb, eqb, ℤ}
+use Rattle.std.specs.Prelude.{pos, nat_abs}
 use Rattle.answer.specs.Told.{ToldStep, in_range, inside, passes}
 
 -- C_N squared + C_E squared

@@ -49,5 +49,6 @@ combine_step sea scale =
 
 abbrev pub grid_step : ℕ → ℕ → ToldStep
 grid_step distance factor =
-    in_range (inside least_distance most_distance distance && inside least_combined most_combined factor)
+    in_range (inside least_distance most_distance distance
+    && inside least_combined most_combined factor)
     (pos (grid distance factor))

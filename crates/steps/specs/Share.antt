@@ -21,4 +21,5 @@ share_step closure part whole =
 
 abbrev pub angle_share_step : ℤ → ℕ → ℕ → ToldStep
 angle_share_step w j n =
-    in_range (leb (nat_abs w) half_circle && inside 1 most_legs n && leb j (n + 1)) (share w j (n + 1))
+    in_range (leb (nat_abs w) half_circle && inside 1 most_legs n && leb j (n + 1))
+    (share w j (n + 1))

@@ -1,5 +1,6 @@
 // The doubled area of a loop, by its stations' offsets: northing, then easting, of each.
-ghost use Rattle.std.specs.Prelude.{◌≡◌, true, ◌&&◌, ◌+◌, ◌*◌, ◌%◌, ◌<◌, ◌≤◌, leb, length, get_or, pos, nat_abs};
+ghost use Rattle.std.specs.Prelude.{◌≡◌, true, ◌&&◌, ◌+◌, ◌*◌, ◌%◌, ◌<◌, ◌≤◌, leb, length, get_or};
+ghost use Rattle.std.specs.Prelude.{pos, nat_abs};
 ghost use Rattle.answer.specs.Told.{told_amount};
 ghost use Rattle.answer.specs.Limit.{most_legs};
 ghost use Rattle.steps.specs.Area.{most_offset, good_offsets, northing, easting};

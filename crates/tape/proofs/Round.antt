@@ -97,7 +97,8 @@ reads_next (Next st) at f a e = (st, refl, e)
 reads_next (Stop n) at f a e = let z : ◌≡◌ {A = ℕ} 0 1 = cc in absurd (omega arith)
 
 again_from : (st : State) (at n : ℕ) (l : List ℕ) (a : State) → walk st at n l ≡ Reads a
-    → (Bytes l → tape_of (records_from n l) ≡ drop n l) × (run_of st at (records_from n l) ≡ Reads a)
+    → (Bytes l → tape_of (records_from n l) ≡ drop n l)
+    × (run_of st at (records_from n l) ≡ Reads a)
 unfolding walk records_from tape_of run_of
 again_from st at zero [] a e = (λ b. refl, e)
 again_from st at (suc n) [] a e = (λ b. refl, e)
@@ -118,6 +119,7 @@ unfolding reading_of
 same_bytes l a b e = (again_from start 0 0 l a e).0 b.each
 
 -- and its fields by themselves meet no refusal tried before 8
-pub lawful : (l : List ℕ) (a : State) → reading_of l ≡ Reads a → fields_read (records_of l) ≡ Reads a
+pub lawful : (l : List ℕ) (a : State) → reading_of l ≡ Reads a
+    → fields_read (records_of l) ≡ Reads a
 unfolding reading_of
 lawful l a e = (again_from start 0 0 l a e).1

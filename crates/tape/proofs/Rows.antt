@@ -60,7 +60,8 @@ module _ (st : State) (k : ℕ) (vs : List ℤ) (m : ℕ) where
   Adds u = In u m ↔ (In st m ⊎ Row m k vs)
 
   -- a row that is not the first has the minute next
-  row_adds : k ≡ row_kind → (0 < st.rows → minute_of vs ≡ st.next) → Adds (with_row st (minute_of vs))
+  row_adds : k ≡ row_kind → (0 < st.rows → minute_of vs ≡ st.next)
+      → Adds (with_row st (minute_of vs))
   row_adds e follows = (
     λ i. ⊎_elim (λ f. inr (e, sym f)) (λ h. let f = follows (omega arith) in inl (omega arith))
         (eq-or-lt_of_le (omega arith)),

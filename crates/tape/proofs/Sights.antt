@@ -30,7 +30,8 @@ module _ (tape : List ℕ) (at : ℕ) where
   -- ---- a leg, and a close, that are whole
   module _ (n : ℕ) (low : at < n) (a : ℕ) (angle : a ≡ num four tape (at + 1)) where
     pub leg_sight : (d : ℕ) → n ≡ length tape - 8 → d ≡ num four tape (at + 5)
-        → get_or tape at 0 ≡ 3 → record { angle = a; distance = d; next = at + 9 } ≡ sight_at tape at
+        → get_or tape at 0 ≡ 3
+        → record { angle = a; distance = d; next = at + 9 } ≡ sight_at tape at
     unfolding angle_of distance_of numbers_of body_of kind_fields table meant
     leg_sight d e distance is =
         let f : at + 9 ≡ at + 1 + 8 = omega arith in
@@ -44,7 +45,8 @@ module _ (tape : List ℕ) (at : ℕ) where
         rw (is, num_drop four at tape 1, ← angle) at (whole_sight 4 is (omega arith))
 
   -- ---- neither: another kind, or one that is not whole
-  other_sight : (get_or tape at 0 ≡ 3 → ⊥) → (get_or tape at 0 ≡ 4 → ⊥) → no_sight at ≡ sight_at tape at
+  other_sight : (get_or tape at 0 ≡ 3 → ⊥) → (get_or tape at 0 ≡ 4 → ⊥)
+      → no_sight at ≡ sight_at tape at
   unfolding sight_at
   other_sight f g =
       let k = get_or tape at 0 in

@@ -12,7 +12,8 @@ use Rattle.tape.specs.Fields.{taken_of}
 use Rattle.tape.specs.Legs.{sight_at}
 
 -- `read`
-pub read_single : (tape : List ℕ) (x y : Reading) → x ≡ reading_of tape → y ≡ reading_of tape → x ≡ y
+pub read_single : (tape : List ℕ) (x y : Reading) → x ≡ reading_of tape → y ≡ reading_of tape
+    → x ≡ y
 read_single tape x y e f = e ∙ sym f
 
 -- `take`

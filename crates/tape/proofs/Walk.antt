@@ -71,7 +71,8 @@ module _ (s : List ℕ) (st : State) (at : ℕ) where
   -- the walk at a place within the tape
   pub at_front : at < length s
       → walk st at 0 (drop at s) ≡ on_step (step_of st (drop at s)) at
-      (λ st'. walk st' (at + 1 + body_of (get_or s at 0)) (body_of (get_or s at 0)) (drop (suc at) s))
+      (λ st'. walk st' (at + 1 + body_of (get_or s at 0)) (body_of (get_or s at 0))
+      (drop (suc at) s))
   unfolding walk
   at_front low = rw (drop-cons s at 0 low)
 

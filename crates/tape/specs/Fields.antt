@@ -1,7 +1,8 @@
 -- docs/RULES.md, "The tape" and "Nine refusals": the fields of a tape by their names, in parts by
 -- the record that has them, and what is returned of them. Each is picked from the records of the
 -- tape; the row that counts is the one of the mean latitude.
-use Rattle.std.specs.Prelude.{Bool, cond, ◌&&◌, ◌||◌, List, [], ◌∷◌, map, ◌≡◌, ℕ, ◌+◌, ◌<◌, eqb, length, get_or, ℤ, pos, nat_abs}
+use Rattle.std.specs.Prelude.{Bool, cond, ◌&&◌, ◌||◌, List, [], ◌∷◌, map, ◌≡◌, ℕ, ◌+◌, ◌<◌, eqb}
+use Rattle.std.specs.Prelude.{length, get_or, ℤ, pos, nat_abs}
 use Rattle.whole.specs.declared.Whole.{Whole}
 use Rattle.records.specs.Record.{Rec, rec, body_of, row_kind, project_kind, start_kind, close_kind}
 use Rattle.tape.specs.declared.State.{State}

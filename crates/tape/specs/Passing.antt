@@ -1,7 +1,8 @@
 -- docs/RULES.md, "Definitions that state no rule": what the reader's private functions promise one
 -- another, each of its part of the tape. The reading of the whole is a refusal there, or the
 -- reading from the place after the part on.
-use Rattle.std.specs.Prelude.{◌≡◌, Bool, cond, false, ◌⊎◌, List, ℕ, ◌+◌, ◌≤◌, eqb, length, get_or, drop}
+use Rattle.std.specs.Prelude.{◌≡◌, Bool, cond, false, ◌⊎◌, List, ℕ, ◌+◌, ◌≤◌, eqb, length, get_or}
+use Rattle.std.specs.Prelude.{drop}
 use Rattle.records.specs.Bytes.{two, num}
 use Rattle.records.specs.Record.{row_kind, body_of, numbers_of, good_of}
 use Rattle.tape.specs.declared.State.{State}

@@ -1,8 +1,10 @@
 -- docs/RULES.md, "The tape" and "Nine refusals": the reading that stands before refusals 8 and 9.
 -- For every list of bytes it is the state at the end, or the refusal with its place.
-use Rattle.std.specs.Prelude.{Bool, true, false, cond, ◌&&◌, ◌||◌, List, [], ◌∷◌, ◌++◌, ℕ, zero, suc, ◌+◌, ◌-◌, leb, ltb, eqb, length, get_or, ℤ, pos, nat_abs}
+use Rattle.std.specs.Prelude.{Bool, true, false, cond, ◌&&◌, ◌||◌, List, [], ◌∷◌, ◌++◌, ℕ, zero}
+use Rattle.std.specs.Prelude.{suc, ◌+◌, ◌-◌, leb, ltb, eqb, length, get_or, ℤ, pos, nat_abs}
 use Rattle.answer.specs.Limit.{most_legs}
-use Rattle.answer.specs.Refusal.{cut_short, out_of_order, out_of_range, bad_rows, too_many_legs, no_row}
+use Rattle.answer.specs.Refusal.{cut_short, out_of_order, out_of_range, bad_rows, too_many_legs}
+use Rattle.answer.specs.Refusal.{no_row}
 use Rattle.tape.specs.declared.State.{State}
 use Rattle.tape.specs.declared.Reading.{Reading}
 use Rattle.tape.specs.declared.Reading.TheVariants.{Refused, Reads}

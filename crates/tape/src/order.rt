@@ -4,7 +4,8 @@
 // Rows may be many: where the last of them may stand, by the limit and by the tape's length, is
 // known before the first is read, so that each is told by the fewest tests. Legs are read record by
 // record.
-ghost use Rattle.std.specs.Prelude.{◌≡◌, cond, true, false, ◌+◌, ◌-◌, ◌<◌, ◌≤◌, eqb, ltb, length, get_or};
+ghost use Rattle.std.specs.Prelude.{◌≡◌, cond, true, false, ◌+◌, ◌-◌, ◌<◌, ◌≤◌, eqb, ltb, length};
+ghost use Rattle.std.specs.Prelude.{get_or};
 ghost use Rattle.answer.specs.Limit.{most_legs};
 ghost use Rattle.answer.specs.Refusal.{cut_short, out_of_order, bad_rows};
 ghost use Rattle.records.specs.Record.{row_kind, project_kind, start_kind, close_kind, body_of};

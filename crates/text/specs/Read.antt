@@ -1,7 +1,8 @@
 -- docs/RULES.md, "The sheet, and one printed whole": numbers read back from their text, by a reader
 -- that knows nothing of how the text was made. It collects the digits, passes over what is none,
 -- and takes a first minus as the sign.
-use Rattle.std.specs.Prelude.{ℕ, ◌+◌, ◌-◌, ◌*◌, Bool, cond, ◌&&◌, List, [], ◌∷◌, leb, eqb, get_or, ℤ, pos, neg_ℤ}
+use Rattle.std.specs.Prelude.{ℕ, ◌+◌, ◌-◌, ◌*◌, Bool, cond, ◌&&◌, List, [], ◌∷◌, leb, eqb, get_or}
+use Rattle.std.specs.Prelude.{ℤ, pos, neg_ℤ}
 
 -- the number that the digits of a text spell, read on from n
 unfoldable pub spelled : ℕ → List ℕ → ℕ

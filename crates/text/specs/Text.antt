@@ -1,6 +1,7 @@
 -- docs/RULES.md, "The sheet, and one printed whole": numbers as the sheet prints them, in bytes.
 -- Nothing is padded.
-use Rattle.std.specs.Prelude.{ℕ, zero, suc, ◌+◌, ◌/◌, ◌%◌, ◌^◌, cond, List, [], ◌∷◌, ◌++◌, ltb, ℤ, pos, nat_abs}
+use Rattle.std.specs.Prelude.{ℕ, zero, suc, ◌+◌, ◌/◌, ◌%◌, ◌^◌, cond, List, [], ◌∷◌, ◌++◌, ltb, ℤ}
+use Rattle.std.specs.Prelude.{pos, nat_abs}
 use Prim.Native.String.{String}
 use Prim.Native.String as string
 use Prim.Native.Char.{code}

@@ -71,7 +71,8 @@ unfolding values
 values_length [] = refl
 values_length (z ∷ l) = ap suc (values_length l)
 
-values_at : (l : List Whole) (k : ℕ) → k < length l → get_or (values l) k (pos 0) ≡ (get_or l k none).v
+values_at : (l : List Whole) (k : ℕ) → k < length l
+    → get_or (values l) k (pos 0) ≡ (get_or l k none).v
 unfolding values
 values_at [] k h = absurd (omega arith)
 values_at (z ∷ l) zero h = refl
@@ -100,7 +101,8 @@ module _ (all : List Whole) (room : length all ≡ 7) where
       (omega (arith, values_length all))
 
 -- ---- and told
-module _ (a : Answer) (all : List Whole) (l : List ℤ) (is : values all ≡ figures_of (told_traverse a))
+module _ (a : Answer) (all : List Whole) (l : List ℤ)
+    (is : values all ≡ figures_of (told_traverse a))
     (stored : l ≡ values all) where
   pub tells_refused : (n p : ℕ) → a ≡ Refused n p → TellsTraverse (told_traverse a) p l n
   tells_refused n p e = record { number = rw e; place = rw e; figures = stored ∙ is }

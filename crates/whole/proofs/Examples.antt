@@ -27,7 +27,8 @@ shifted a b c h = let v = vars (a ∷ b ∷ c ∷ []) in
 
 -- A size: nat_abs x ≤ k is two linear facts. The hypothesis is read by `abs_known`, the goal proved
 -- by `abs_under`.
-apart : (a b c : ℤ) (j k : ℕ) → nat_abs (a -ℤ b) ≤ j → nat_abs (b -ℤ c) ≤ k → nat_abs (a -ℤ c) ≤ j + k
+apart : (a b c : ℤ) (j k : ℕ) → nat_abs (a -ℤ b) ≤ j → nat_abs (b -ℤ c) ≤ k
+    → nat_abs (a -ℤ c) ≤ j + k
 apart a b c j k h i =
     let v = vars (a ∷ b ∷ c ∷ []) in
     abs_under (a -ℤ c) (search ints)

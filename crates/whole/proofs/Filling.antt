@@ -31,7 +31,8 @@ module _ (g : ℕ → ℕ) (l : List ℕ) where
   unfolding filled
   filled_after zero k h = refl
   filled_after (suc n) k h =
-      get_or-set_other (filled g n l) n k (g n) 0 (λ e. omega arith) ∙ filled_after n k (omega arith)
+      get_or-set_other (filled g n l) n k (g n) 0 (λ e. omega arith)
+      ∙ filled_after n k (omega arith)
 
   -- one item more, and all of them
   pub filled_on : (k r : ℕ) (m : List ℕ) → m ≡ filled g k l → r ≡ g k

@@ -210,7 +210,8 @@ module _ (ρ : List ℤ) where
   norm_ok (num z) = +ℤ_idr _ ∙ mul_one z
   norm_ok (plus e f) = addp_ok (norm e) (norm f) ∙ rw (norm_ok e, norm_ok f)
   norm_ok (times e f) = mulp_ok (norm e) (norm f) ∙ rw (norm_ok e, norm_ok f)
-  norm_ok (minus e) = scale_ok (negsuc 0) one (norm e) ∙ flip (evp ρ (norm e)) ∙ ap neg_ℤ (norm_ok e)
+  norm_ok (minus e) = scale_ok (negsuc 0) one (norm e) ∙ flip (evp ρ (norm e))
+      ∙ ap neg_ℤ (norm_ok e)
 
   pub zeros_ok : (p : Poly) → T (zeros p) → evp ρ p ≡ pos 0
   unfolding evp

@@ -104,7 +104,8 @@ unfolding nearest
 nearest_mono {y = pos m} {z = pos n} d h low = let i = half_up_mono m n d h (omega int) in omega int
 nearest_mono {y = pos m} {z = negsuc n} d h low = absurd low.le
 nearest_mono {y = negsuc m} {z = pos n} d h low =
-    ≤ᶻ-trans {b = pos 0} (neg_anti {a = pos 0} {b = pos (half_up (suc m) d)} (omega int)) (omega int)
+    ≤ᶻ-trans {b = pos 0} (neg_anti {a = pos 0} {b = pos (half_up (suc m) d)} (omega int))
+    (omega int)
 nearest_mono {y = negsuc m} {z = negsuc n} d h low = let i =
     half_up_mono (suc n) (suc m) d h (omega int) in
     neg_anti {a = pos (half_up (suc n) d)} {b = pos (half_up (suc m) d)} (omega int)

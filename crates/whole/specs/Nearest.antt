@@ -2,7 +2,8 @@
 -- from zero, for negative amounts as for positive". `Nearest z d q` is that sentence of the
 -- fraction z / d and the whole number q; `nearest z d` is the number it names. For d above zero the
 -- two agree: `nearest_is` and `nearest_unique` of proofs/Rounding.antt.
-use Rattle.std.specs.Prelude.{◌≡◌, ℕ, suc, ◌+◌, ◌*◌, ◌/◌, ◌≤◌, ℤ, pos, negsuc, neg_ℤ, nat_abs, ◌-ℤ◌, ◌*ℤ◌}
+use Rattle.std.specs.Prelude.{◌≡◌, ℕ, suc, ◌+◌, ◌*◌, ◌/◌, ◌≤◌, ℤ, pos, negsuc, neg_ℤ, nat_abs, ◌-ℤ◌}
+use Rattle.std.specs.Prelude.{◌*ℤ◌}
 
 pub record Nearest (z : ℤ) (d : ℕ) (q : ℤ) : Type 0 where
   -- q is at most half a unit off

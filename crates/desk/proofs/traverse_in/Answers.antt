@@ -3,10 +3,12 @@ use Rattle.desk.proofs.Stepping.{short_told, short_words, refused_told, refused_
 use Rattle.desk.proofs.Stepping.{known_is, good_told, good_words}
 use Rattle.desk.proofs.traverse_in.Goals as goal
 
-pub returns-then-words-lt-STATION_WORDS-clause-answer : goal.returns-then-words-lt-STATION_WORDS-clause-answer
+pub returns-then-words-lt-STATION_WORDS-clause-answer :
+    goal.returns-then-words-lt-STATION_WORDS-clause-answer
 returns-then-words-lt-STATION_WORDS-clause-answer c = search short_told
 
-pub returns-then-words-lt-STATION_WORDS-clause-words : goal.returns-then-words-lt-STATION_WORDS-clause-words
+pub returns-then-words-lt-STATION_WORDS-clause-words :
+    goal.returns-then-words-lt-STATION_WORDS-clause-words
 returns-then-words-lt-STATION_WORDS-clause-words c = search short_words
 
 pub work_in-requires-clause-known : goal.work_in-requires-clause-known

@@ -12,4 +12,5 @@ down_to c = let s = c.args in
     rw c.half_up.ensures.is (falling_most s.e s.f s.r (omega arith) (omega arith))
 
 pub returns-clause-is : goal.returns-clause-is
-returns-clause-is c = let s = c.args in rw c.half_up.ensures.is (falling s.e s.f s.r (omega arith) (omega arith))
+returns-clause-is c =
+    let s = c.args in rw c.half_up.ensures.is (falling s.e s.f s.r (omega arith) (omega arith))

@@ -6,7 +6,8 @@ use Rattle.sines.proofs.Quadrants.{first, second, third, fourth}
 use Rattle.sines.proofs.fold.Goals as goal
 use Rattle.sines.proofs.fold.Goals.{then-angle-gt-HALF_CIRCLE, else-angle-gt-HALF_CIRCLE}
 
-pub returns-then-half-le-QUARTER_CIRCLE-clause-is : goal.returns-then-half-le-QUARTER_CIRCLE-clause-is
+pub returns-then-half-le-QUARTER_CIRCLE-clause-is :
+    goal.returns-then-half-le-QUARTER_CIRCLE-clause-is
 returns-then-half-le-QUARTER_CIRCLE-clause-is c =
     elim c.if-angle-gt-HALF_CIRCLE.branch [
       | then-angle-gt-HALF_CIRCLE w ↦

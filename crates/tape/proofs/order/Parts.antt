@@ -203,7 +203,8 @@ module _ (s : List ℕ) (first c : Cursor) (l : Lining s first c) where
   pub leg_few : (n : ℕ) → (n ≡ 0 → c.st.legs < 64) → n ≡ 0 → c.st.legs < 64
   leg_few n h z = h z
 
-  pub leg_less : (r : Bool) (d : Cursor) → r ≡ is_leg (get_or s c.at 0) → r ≡ true → d ≡ past_leg s c
+  pub leg_less : (r : Bool) (d : Cursor) → r ≡ is_leg (get_or s c.at 0) → r ≡ true
+      → d ≡ past_leg s c
       → length s - d.at < length s - c.at
   leg_less r d e t f =
       omega (arith, leg_low s c (sym e ∙ t) l.line, ap (λ (x : Cursor). x.at) f)

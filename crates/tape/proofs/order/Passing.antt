@@ -55,7 +55,8 @@ module _ (s : List ℕ) (c : Cursor) where
       pub goes_on : n ≡ 0 → reading_from s c ≡ reading_from s d
       goes_on z = h.same ∙ rw z
 
-  passes : (u : State) (b : ℕ) → at < length s → b ≡ at + 1 + body_of (get_or s at 0) → step ≡ Next u
+  passes : (u : State) (b : ℕ) → at < length s → b ≡ at + 1 + body_of (get_or s at 0)
+      → step ≡ Next u
       → Passes s c 0 (cursor b u)
   passes u b low f e =
       record {
@@ -73,7 +74,8 @@ module _ (s : List ℕ) (c : Cursor) where
     unfolding step_of judge take_of
     one_too_many comes n r h = rw (head_drop at s, is, comes, r, ne_eqb n 0 (λ z. omega arith))
 
-    pub cut_short_lem : may_come st k ≡ true → room_of st k ≡ 0 → length s - at ≤ body_of k → step ≡ Stop 2
+    pub cut_short_lem : may_come st k ≡ true → room_of st k ≡ 0 → length s - at ≤ body_of k
+        → step ≡ Stop 2
     unfolding step_of judge take_of
     cut_short_lem comes room h =
         rw (head_drop at s, is, comes, room, length-drop at s, le-ltb (body_of k) (length s - at) h)
@@ -127,7 +129,8 @@ module _ (s : List ℕ) (c : Cursor) where
           | yes low ↦ elim (ℕ_discrete (get_or s at 0) k) [
             | yes i ↦ absurd (h (rw (lt-ltb at (length s) low, eq-eqb (get_or s at 0) k i) at e))
             | no i ↦
-                let three : n ≡ 3 = rw (lt-ltb at (length s) low, ne_eqb (get_or s at 0) k i) at e in
+                let three : n
+                ≡ 3 = rw (lt-ltb at (length s) low, ne_eqb (get_or s at 0) k i) at e in
                 rw three
                 (fails 3 (cursor b u) low (omega arith) (other_kind (get_or s at 0) refl (alone i)))
           ]
@@ -206,7 +209,8 @@ module _ (s : List ℕ) (c : Cursor) where
     row_bad t = bad 5 row_due row_after (at + 7) _ g (omega arith) row_numbers e t
 
   -- the cursor after it, as the code makes it
-  pub past_row_is : (m : ℕ) → m ≡ num two s (at + 1) → cursor (at + 7) (with_row st m) ≡ past_row s c
+  pub past_row_is : (m : ℕ) → m ≡ num two s (at + 1)
+      → cursor (at + 7) (with_row st m) ≡ past_row s c
   unfolding body_of kind_fields table
   past_row_is m e = rw e
 
@@ -282,7 +286,8 @@ module _ (s : List ℕ) (c : Cursor) where
       unfolding may_come room_of
       start_due = is_due 2 n e z (rw p) refl
 
-      pub start_short : length s - at ≤ 12 → Passes s c 2 (cursor (at + 13) (in_phase line_begun st))
+      pub start_short : length s - at ≤ 12
+          → Passes s c 2 (cursor (at + 13) (in_phase line_begun st))
       unfolding body_of kind_fields table
       start_short h = short 2 start_due (in_phase line_begun st) (at + 13) h
 

@@ -1,4 +1,3 @@
-use Prim.Native.Nat.{◌-◌}
 use borrow.Author.Rules.{rules}
 use Rattle.text.proofs.Putting.{copy_next}
 use Rattle.text.proofs.put.Goals as goal

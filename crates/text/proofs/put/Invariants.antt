@@ -8,7 +8,8 @@ use Rattle.text.proofs.put.Given as goal
 
 abbrev pub invariant-loop-k : goal.invariant-loop-k
 invariant-loop-k l =
-    (l.k ≤ length l.text) × (length l.out ≡ length l.initial.out) × (l.out ≡ sets l.initial.out l.at (take l.k l.text))
+    (l.k ≤ length l.text) × (length l.out ≡ length l.initial.out)
+    × (l.out ≡ sets l.initial.out l.at (take l.k l.text))
 
 abbrev pub decreases-loop-k : goal.decreases-loop-k
 decreases-loop-k l = length l.text - l.k

@@ -10,7 +10,8 @@ pub put_row-requires : goal.put_row-requires
 unfolding rec_of bytes_of body_of kind_fields table bytes
 put_row-requires c = search lent
 
-pub put_project-requires-clause-project_kind_in_bounds : goal.put_project-requires-clause-project_kind_in_bounds
+pub put_project-requires-clause-project_kind_in_bounds :
+    goal.put_project-requires-clause-project_kind_in_bounds
 unfolding rec_of bytes_of body_of kind_fields table bytes
 put_project-requires-clause-project_kind_in_bounds c = search (lent, project_feet)
 

@@ -7,10 +7,12 @@ use Rattle.desk.proofs.Stations.{passed_words, passed_told}
 use Rattle.desk.proofs.adjusting.settle.Goals as goal
 
 pub within_limit-requires-clause-le_distance : goal.within_limit-requires-clause-le_distance
-within_limit-requires-clause-le_distance c = (search (run_far, lent_entries), search (run_most_left, lent_entries))
+within_limit-requires-clause-le_distance c =
+    (search (run_far, lent_entries), search (run_most_left, lent_entries))
 
 pub within_limit-requires-clause-v_bound : goal.within_limit-requires-clause-v_bound
-within_limit-requires-clause-v_bound c = (search (north_small, lent_entries), search (east_small, lent_entries))
+within_limit-requires-clause-v_bound c =
+    (search (north_small, lent_entries), search (east_small, lent_entries))
 
 pub adjust_all-requires-clause-area_ranged : goal.adjust_all-requires-clause-area_ranged
 adjust_all-requires-clause-area_ranged c = search (passed_words, lent_entries)

@@ -8,7 +8,8 @@ pub loop-k-init : goal.loop-k-init
 unfolding filled
 loop-k-init c = search rules
 
-pub balanced_leg-requires-clause-azimuth_lt_circle : goal.balanced_leg-requires-clause-azimuth_lt_circle
+pub balanced_leg-requires-clause-azimuth_lt_circle :
+    goal.balanced_leg-requires-clause-azimuth_lt_circle
 balanced_leg-requires-clause-azimuth_lt_circle c = search balancing_turned
 
 pub loop-k-preserved : goal.loop-k-preserved

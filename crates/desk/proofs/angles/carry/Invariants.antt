@@ -14,11 +14,13 @@ use Rattle.desk.proofs.angles.carry.Given as goal
 abbrev pub invariant-loop-k : goal.invariant-loop-k
 invariant-loop-k l =
     let t = turns_of (fields_of l.tape) in
-    (l.k ≤ l.c.legs) × Sighted l.tape l.k l.sight × (l.azimuth ≡ carried t l.k) × (l.azimuth < 12960000)
+    (l.k ≤ l.c.legs) × Sighted l.tape l.k l.sight × (l.azimuth ≡ carried t l.k)
+    × (l.azimuth < 12960000)
     × (l.azimuths ≡ filled (carried t) l.k l.initial.azimuths) ×
     (l.distances ≡ filled (distance_at (fields_of l.tape)) l.k l.initial.distances)
     × (l.c.legs ≤ length l.azimuths) × (l.c.legs ≤ length l.distances)
-    × (length l.azimuths ≡ length l.initial.azimuths) × (length l.distances ≡ length l.initial.distances)
+    × (length l.azimuths ≡ length l.initial.azimuths)
+    × (length l.distances ≡ length l.initial.distances)
 
 abbrev pub decreases-loop-k : goal.decreases-loop-k
 decreases-loop-k l =

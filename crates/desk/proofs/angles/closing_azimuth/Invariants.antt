@@ -10,7 +10,8 @@ use Rattle.desk.proofs.angles.closing_azimuth.Given as goal
 
 abbrev pub invariant-loop-k : goal.invariant-loop-k
 invariant-loop-k l =
-    (l.k ≤ l.c.legs) × Sighted l.tape l.k l.sight × (l.azimuth ≡ carried (turns_of (fields_of l.tape)) l.k)
+    (l.k ≤ l.c.legs) × Sighted l.tape l.k l.sight
+    × (l.azimuth ≡ carried (turns_of (fields_of l.tape)) l.k)
     × (l.azimuth < 12960000)
 
 abbrev pub decreases-loop-k : goal.decreases-loop-k

@@ -8,7 +8,8 @@ use Rattle.desk.proofs.coordinates.put_all.Given as goal
 
 abbrev pub invariant-loop-k : goal.invariant-loop-k
 invariant-loop-k l =
-    (l.k ≤ l.n + 1) × (l.words ≡ put_to l.spots l.runs l.c l.k l.initial.words) × (length l.words ≡ length l.initial.words)
+    (l.k ≤ l.n + 1) × (l.words ≡ put_to l.spots l.runs l.c l.k l.initial.words)
+    × (length l.words ≡ length l.initial.words)
 
 abbrev pub decreases-loop-k : goal.decreases-loop-k
 decreases-loop-k l = l.n + 1 - l.k

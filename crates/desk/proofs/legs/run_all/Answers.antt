@@ -20,7 +20,8 @@ loop-k-init c = (
 )
 
 pub advance-s-requires-clause-room_for_leg : goal.advance-s-requires-clause-room_for_leg
-advance-s-requires-clause-room_for_leg c = let inv = c.loop-k.invariant in stands_small _ (lent_entries _) _ inv.1 _ _ inv.0 inv.2
+advance-s-requires-clause-room_for_leg c =
+    let inv = c.loop-k.invariant in stands_small _ (lent_entries _) _ inv.1 _ _ inv.0 inv.2
 
 pub loop-k-preserved : goal.loop-k-preserved
 loop-k-preserved c = (

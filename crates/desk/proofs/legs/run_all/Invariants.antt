@@ -11,7 +11,8 @@ abbrev pub invariant-loop-k : goal.invariant-loop-k
 invariant-loop-k l =
     let whole = with_legs l.b l.azimuths l.distances in
     (l.k ≤ l.b.legs) × Sound whole × Stands (entry_in l.table) whole l.k l.s × Ran
-    (entry_in l.table) whole l.k l.spots l.runs × (64 ≤ length l.azimuths) × (64 ≤ length l.distances)
+    (entry_in l.table) whole l.k l.spots l.runs × (64 ≤ length l.azimuths)
+    × (64 ≤ length l.distances)
     × (130 ≤ length l.spots) × (65 ≤ length l.runs) × (length l.spots ≡ length l.initial.spots) ×
     (length l.runs ≡ length l.initial.runs)
 

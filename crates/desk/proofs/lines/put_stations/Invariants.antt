@@ -9,7 +9,8 @@ use Rattle.desk.proofs.lines.put_stations.Given as goal
 
 abbrev pub invariant-loop-k : goal.invariant-loop-k
 invariant-loop-k l =
-    (l.k ≤ l.n) × (length l.out ≡ length l.initial.out) × Put l.initial.out l.at (station_lines l.words l.k) l.out l.i
+    (l.k ≤ l.n) × (length l.out ≡ length l.initial.out)
+    × Put l.initial.out l.at (station_lines l.words l.k) l.out l.i
 
 abbrev pub decreases-loop-k : goal.decreases-loop-k
 decreases-loop-k l = l.n - l.k

@@ -8,7 +8,8 @@ use Rattle.steps.specs.Area.{good_offsets}
 use Rattle.steps.proofs.area.good_offsets.Given as goal
 
 abbrev pub invariant-loop-i : goal.invariant-loop-i
-invariant-loop-i l = (l.i ≤ l.n) × (good_offsets (drop (2 * l.i) l.offsets) ≡ good_offsets l.offsets)
+invariant-loop-i l = (l.i ≤ l.n)
+    × (good_offsets (drop (2 * l.i) l.offsets) ≡ good_offsets l.offsets)
 
 abbrev pub decreases-loop-i : goal.decreases-loop-i
 decreases-loop-i l = l.n - l.i

@@ -12,7 +12,8 @@ returns-then-distance-gt-MOST_GRID c = search ranges
 pub overflow_cast-size : goal.overflow_cast-size
 overflow_cast-size c = let h : c.size.result ≤ 1000000000 = search size_small in search rules
 
-pub move_by-requires-clause-size_le_nine_decimals : goal.move_by-requires-clause-size_le_nine_decimals
+pub move_by-requires-clause-size_le_nine_decimals :
+    goal.move_by-requires-clause-size_le_nine_decimals
 move_by-requires-clause-size_le_nine_decimals c = search size_small
 
 pub returns-in-OutOfRange : goal.returns-in-OutOfRange

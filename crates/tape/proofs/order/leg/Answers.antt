@@ -6,7 +6,8 @@ use Rattle.tape.proofs.order.leg.Goals as goal
 pub returns-then-st-ge-MOST_LEGS-clause-passes : goal.returns-then-st-ge-MOST_LEGS-clause-passes
 returns-then-st-ge-MOST_LEGS-clause-passes c = search leg_full
 
-pub returns-then-tape-at-le-LEG_BODY-clause-passes : goal.returns-then-tape-at-le-LEG_BODY-clause-passes
+pub returns-then-tape-at-le-LEG_BODY-clause-passes :
+    goal.returns-then-tape-at-le-LEG_BODY-clause-passes
 returns-then-tape-at-le-LEG_BODY-clause-passes c = search (leg_short, leg_long)
 
 pub leg_good-requires-clause-at_in_bounds : goal.leg_good-requires-clause-at_in_bounds
