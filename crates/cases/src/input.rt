@@ -2,6 +2,7 @@
 // end all are 0, or no bytes. A read that fails is an error, and ends the program.
 ghost use Rattle.std.specs.Prelude.{◌≡◌, ◌<◌, ◌≤◌, IfOk, length, take};
 ghost use Rattle.std.specs.Io.{ReadsAtMost};
+ghost use Rattle.std.specs.Io.KnownBytes.{Consumes, IsAtEnd};
 
 use std::io::{self, Read};
 use whole::Whole;
@@ -12,15 +13,19 @@ pub const WORDS: usize = 256;
 // As many bytes as a case may hold: a length of two bytes is below this.
 pub const ROOM_BYTES: usize = 65_536;
 
-// Reads until the room is full or the input ends, and answers how many bytes stand at its front.
-fn read_full(from: &mut impl Read, room: &mut [u8]) -> io::Result<usize>
-    ensures { ReadsAtMost result room.new }
+// Reads until the room is full or the input ends, and answers how many bytes stand at its front:
+// those that were next in the input.
+fn read_full<R: Read>(from: &mut R, room: &mut [u8]) -> io::Result<usize>
+    ensures count { ReadsAtMost result room.new }
+    ensures bytes { IfOk result (λ n.
+        Consumes (R.remaining from.old) (R.remaining from.new) (take n room.new)) }
+    ensures end { IfOk result (λ n. n < length room.new → IsAtEnd (R.remaining from.new)) }
 {
     let mut done = 0;
     while done < room.len() {
         let n = from.read(&mut room[done..])?;
         if n == 0 {
-            break;
+            return Ok(done);
         }
         done += n;
     }

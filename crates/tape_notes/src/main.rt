@@ -3,7 +3,9 @@
 // callers go by what is written. A read or a write that fails ends the program with an error.
 #![tactic(auto)]
 
+ghost use Rattle.std.specs.Prelude.{◌<◌, IfOk, length, take};
 ghost use Rattle.std.specs.Io.{ReadsAtMost};
+ghost use Rattle.std.specs.Io.KnownBytes.{Consumes, IsAtEnd};
 
 use notes::Texted;
 use std::io::{self, Read, Write};
@@ -11,15 +13,19 @@ use std::io::{self, Read, Write};
 // What is lent for the tape, and for its notes or the line of a refusal.
 const ROOM_BYTES: usize = 65_536;
 
-// Reads until the room is full or the input ends, and answers how many bytes stand at its front.
-fn read_full(from: &mut impl Read, room: &mut [u8]) -> io::Result<usize>
-    ensures { ReadsAtMost result room.new }
+// Reads until the room is full or the input ends, and answers how many bytes stand at its front:
+// those that were next in the input.
+fn read_full<R: Read>(from: &mut R, room: &mut [u8]) -> io::Result<usize>
+    ensures count { ReadsAtMost result room.new }
+    ensures bytes { IfOk result (λ n.
+        Consumes (R.remaining from.old) (R.remaining from.new) (take n room.new)) }
+    ensures end { IfOk result (λ n. n < length room.new → IsAtEnd (R.remaining from.new)) }
 {
     let mut done = 0;
     while done < room.len() {
         let n = from.read(&mut room[done..])?;
         if n == 0 {
-            break;
+            return Ok(done);
         }
         done += n;
     }
