@@ -1,6 +1,7 @@
 // Reads a bundle of cases on standard input and prints all that is answered to each, for
 // comparison: the expected output is made by the second program, which is written from the rules
-// alone. A case is a letter, which says its subject, and what the subject's module reads.
+// alone. A case is a letter, which says its subject, and what the subject's module reads. A read or
+// a write that fails ends the program with an error.
 #![tactic(auto)]
 
 mod angles;
@@ -11,25 +12,29 @@ mod output;
 mod reading;
 mod traverses;
 
+use std::io::{self, Read, Write};
+
 // One case of the bundle; false at its end, and where the letter says no subject.
-fn one_case() -> bool {
-    match input::read_u8() {
-        b'T' => reading::answer(),
-        b'N' => field_notes::answer(),
-        b'D' => traverses::answer(),
-        b'S' => calls::answer(),
-        b'A' => angles::answer(),
-        _ => {
-            return false;
-        }
+fn one_case(from: &mut impl Read, to: &mut impl Write) -> io::Result<bool> {
+    match input::read_u8(from)? {
+        b'T' => reading::answer(from, to)?,
+        b'N' => field_notes::answer(from, to)?,
+        b'D' => traverses::answer(from, to)?,
+        b'S' => calls::answer(from, to)?,
+        b'A' => angles::answer(from, to)?,
+        _ => return Ok(false),
     }
-    true
+    Ok(true)
 }
 
-// A proved loop has to end: the turns count down from a number that no bundle uses up.
-fn main() {
-    let mut turns = u64::MAX;
-    while turns > 0 && one_case() {
-        turns -= 1;
+// A proved loop has to end: the turns count up to a number that no bundle uses up.
+fn main(rt: HostRuntime) -> io::Result<()> {
+    let mut from = rt.stdin();
+    let mut to = rt.stdout();
+    for _ in 0..u64::MAX {
+        if !one_case(&mut from, &mut to)? {
+            break;
+        }
     }
+    Ok(())
 }

@@ -1,0 +1,33 @@
+-- A read appends what it gave to what stands at the room's front, and takes it off the reader.
+use Rattle.std.proofs.Common.{◌≡◌, ℕ, ◌+◌, ◌-◌, ◌≤◌, List, ◌++◌, rules, length, take, drop, sym, ap, ◌∙◌, subst, le_refl, drop_at, length-take-le}
+use Rattle.std.proofs.lemmas.Slice.{take-put_mid_below}
+use Rattle.std.proofs.lemmas.List.{take-append-le}
+use Rattle.std.specs.Io.KnownBytes.{Consumes}
+use Rattle.std.proofs.KnownBytes.{Consumes-trans}
+use borrow.Rule.Slice.PartMut.{put_mid, post_of}
+use lib.Seq.{take-add}
+use Rattle.notes_tape.proofs.read_full.Goals as goal
+
+-- what stands at the front of the room after the read: what stood there, and what was read
+take-put_mid : (a k n : ℕ) (xs ys : List ℕ) → a ≤ length xs → n ≤ length ys
+    → take (a + n) (put_mid a k xs ys) ≡ take a xs ++ take n ys
+take-put_mid a k n xs ys within fits =
+    let after = post_of a k xs in
+    take-add a n (put_mid a k xs ys)
+    ∙ ap (λ l. l ++ take n (drop a (put_mid a k xs ys)))
+    (take-put_mid_below _ _ _ _ _ (le_refl _) within)
+    ∙ ap (λ l. take a xs ++ take n l)
+    (drop_at (take a xs) (ys ++ after) a (length-take-le a xs within))
+    ∙ ap (λ l. take a xs ++ l) (take-append-le n ys after fits)
+
+pub loop-done-preserved : goal.loop-done-preserved
+loop-done-preserved g c =
+    let before = c.loop-done.invariant in
+    let read = c.in_ok-n.ensures in
+    let room = length c.loop-done.room - c.loop-done.done in
+    let front =
+    take-put_mid c.loop-done.done room c.in_ok-n.n c.loop-done.room c.read.new.buf before.0
+    read.bound.0 in (
+      search rules,
+      subst (Consumes _ _) (sym front) (Consumes-trans _ _ _ _ _ before.1 read.bytes.0),
+    )
