@@ -26,6 +26,9 @@ RULESET = re.compile(r"^\s*(?:pub\s+)?ruleset\s+(\S+)")
 BINDER = re.compile(r"[({]((?:[^\W\d][\w'-]*\s+)+):\s")
 USES = re.compile(r"use ([^\s{]+)\.\{([^}]*)\}")
 GOAL = re.compile(r":\s+(?:tie|goal)\.")
+# what is declared as none of these: a constructor after another on one line, an alias, and names
+# that an equation or a `let` binds
+LOOSE = ("twosComplement", "a-row", "pos-total", "turns-first")
 WORD = re.compile(r"^[^\W\d][\w'-]*$")
 
 
@@ -66,6 +69,8 @@ class Names:
                     for name in bound.split():
                         if snake(name) != name:
                             declared[name].add(path)
+        for name in LOOSE:
+            declared[name].update(p for p in self.proofs if name in p.read_text())
         by_new = defaultdict(set)
         for name in declared:
             by_new[snake(name)].add(name)

@@ -24,7 +24,7 @@ bytes four n = (n / 16777216 % 256) ∷ (n / 65536 % 256) ∷ (n / 256 % 256) �
 
 -- how the number is meant
 pub data Coding : Type 0 where
-  unsigned twosComplement : Coding
+  unsigned twos_complement : Coding
 
 -- how many numbers a width has
 abbrev pub capacity : Width → ℕ
@@ -34,7 +34,7 @@ capacity four = 4294967296
 -- what a number read is meant to be: in two's complement the upper half counts down from -1
 unfoldable pub meant : Coding → Width → ℕ → ℤ
 meant unsigned w n = pos n
-meant twosComplement w n = cond (ltb n (capacity w / 2)) (pos n) (negsuc (capacity w - 1 - n))
+meant twos_complement w n = cond (ltb n (capacity w / 2)) (pos n) (negsuc (capacity w - 1 - n))
 
 -- the number that is written for one that is meant
 unfoldable pub written : Width → ℤ → ℕ

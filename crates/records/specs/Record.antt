@@ -10,7 +10,7 @@ use Rattle.minutes.specs.Quadrant.{circle}
 use Rattle.records.specs.declared.Record.{Record}
 use Rattle.records.specs.declared.Record.TheVariants as kinds
 use Rattle.records.specs.Bytes.{Width, two, four, byte_count, num, bytes}
-use Rattle.records.specs.Bytes.{Coding, unsigned, twosComplement, meant, written}
+use Rattle.records.specs.Bytes.{Coding, unsigned, twos_complement, meant, written}
 
 -- ---- "One byte of kind": the five kinds
 abbrev pub row_kind : ℕ
@@ -49,7 +49,7 @@ abbrev elevation : Field
 elevation =
     record {
       width = two;
-      coding = twosComplement;
+      coding = twos_complement;
       low = neg_ℤ (pos lowest);
       high = pos highest;
     }

@@ -9,7 +9,7 @@ use lib.IntN.{ℤ, pos}
 use Rattle.whole.proofs.Machine.{sfits}
 use Rattle.records.specs.declared.Record.{Record}
 use Rattle.records.specs.declared.Record.TheVariants as kinds
-use Rattle.records.specs.Bytes.{two, four, num, bytes, twosComplement, meant, written}
+use Rattle.records.specs.Bytes.{two, four, num, bytes, twos_complement, meant, written}
 use Rattle.records.specs.Record.{Rec, rec, row_kind, project_kind, start_kind, leg_kind, close_kind}
 use Rattle.records.specs.Record.{table, kind_fields, numbers_of, good_of, bytes_of, rec_of}
 use Rattle.records.specs.Record.{good_record}
@@ -37,7 +37,7 @@ project_made : Made project_kind
 unfolding rec_of numbers_of kind_fields table
 project_made vs g =
     let b = bytes_of project_kind vs ++ [] in (
-      kinds.Project (num two b 1) (record { v = meant twosComplement two (num two b 3) }),
+      kinds.Project (num two b 1) (record { v = meant twos_complement two (num two b 3) }),
       unfold meant in (ap (rec project_kind) (numbers_back project_kind vs [] g)),
     )
 

@@ -33,8 +33,8 @@ module _ (total : ℤ) (whole : ℕ) (some : 0 < whole) where
   -- a larger part of a total that is not negative has a share at least as large
   pub share_grows : (p q : ℕ) → p ≤ q → pos 0 ≤ᶻ total → share total p whole ≤ᶻ share total q whole
   unfolding share
-  share_grows p q h pos-total =
-      nearest_mono whole some (mul_mono {a = pos p} {b = pos q} total pos-total (→le (omega arith)))
+  share_grows p q h pos_total =
+      nearest_mono whole some (mul_mono {a = pos p} {b = pos q} total pos_total (→le (omega arith)))
 
   -- and of any total a share is never more than the total
   pub share_most : (p : ℕ) → p ≤ whole → nat_abs (share total p whole) ≤ nat_abs total

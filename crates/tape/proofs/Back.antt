@@ -17,7 +17,7 @@ use borrow.Author.Tests.{lt-ltb, le-ltb}
 use Rattle.whole.specs.Order.{◌≤ᶻ◌, ◌<ᶻ◌}
 use Rattle.whole.proofs.Diff.{int}
 use Rattle.records.specs.Bytes.{Width, two, four, byte_count, num, bytes, Coding, unsigned}
-use Rattle.records.specs.Bytes.{twosComplement, capacity, meant, written}
+use Rattle.records.specs.Bytes.{twos_complement, capacity, meant, written}
 use Rattle.records.specs.Record.{Field, Kind, Rec, table, look, kind_fields, total, numbers}
 use Rattle.records.specs.Record.{in_ranges}
 use Rattle.records.specs.Record.{spell, body_of, good_of, bytes_of, numbers_of}
@@ -33,11 +33,11 @@ use Rattle.tape.proofs.Round.{reads_next}
 -- ---- what a field can write: the numbers above its floor and below its ceiling
 abbrev floor : Coding → Width → ℤ
 floor unsigned w = negsuc 0
-floor twosComplement w = negsuc (capacity w / 2)
+floor twos_complement w = negsuc (capacity w / 2)
 
 abbrev ceiling : Coding → Width → ℤ
 ceiling unsigned w = pos (capacity w)
-ceiling twosComplement w = pos (capacity w / 2)
+ceiling twos_complement w = pos (capacity w / 2)
 
 -- what is written of such a number is one of its width, and is meant as the number again
 meant_written : (c : Coding) (w : Width) (z : ℤ) → floor c w <ᶻ z → z <ᶻ ceiling c w
@@ -45,10 +45,10 @@ meant_written : (c : Coding) (w : Width) (z : ℤ) → floor c w <ᶻ z → z <�
 unfolding meant written
 meant_written unsigned w (pos n) g h = (omega int, refl)
 meant_written unsigned w (negsuc n) g h = absurd (omega int)
-meant_written twosComplement w (pos n) g h =
+meant_written twos_complement w (pos n) g h =
     let lower : n < capacity w / 2 = omega int in
     (omega arith, rw (lt-ltb _ _ lower))
-meant_written twosComplement w (negsuc n) g h =
+meant_written twos_complement w (negsuc n) g h =
     let upper : capacity w / 2 ≤ capacity w - 1 - n = omega int in
     let same : capacity w - 1 - (capacity w - 1 - n) ≡ n = omega int in
     (omega int, rw (le-ltb _ _ upper, same))

@@ -183,9 +183,9 @@ module _ (tape : List ℕ) (d : DoesRead tape) (k at : ℕ) (h : LegAt tape k at
       absurd (omega (arith, some_left, ap length none))
   onward (leg r {rs} e l) same =
       let rest : Rest tape at (r ∷ rs) = rw same h.rest in
-      let turns-first = pick_yes has_angle r rs (leg_turns r.kind e) in
+      let turns_first = pick_yes has_angle r rs (leg_turns r.kind e) in
       let less : r ∷ pick has_angle rs ≡ drop k (pick has_angle all) =
-      sym turns-first ∙ rw same h.less in (
+      sym turns_first ∙ rw same h.less in (
         record {
           rs = rs;
           rest = rw (next_is tape at r rs rest e) (rest_next tape at r rs rest);

@@ -10,7 +10,7 @@ use lib.ListN.{drop, get_or}
 use lib.IntN.{ℤ, pos, neg_ℤ}
 use lib.Seq.{get_or-drop}
 use borrow.Author.Tests.{lt-ltb, le-ltb}
-use Rattle.records.specs.Bytes.{Width, two, four, num, meant, twosComplement}
+use Rattle.records.specs.Bytes.{Width, two, four, num, meant, twos_complement}
 
 pub head_drop : (n : ℕ) (l : List ℕ) → get_or (drop n l) 0 0 ≡ get_or l n 0
 head_drop n l = rw (get_or-drop, add-zero)
@@ -31,12 +31,12 @@ module _ (l : List ℕ) (k a b : ℕ) where
   num_four e f = let g : k + 2 ≡ suc (suc k) = omega arith in rw (e, f, g) (omega arith)
 
 -- ---- two bytes in two's complement, as the code tells them apart
-pub meant_plain : (v : ℤ) (n m : ℕ) → v ≡ pos n → n ≡ m → n < 32768 → v ≡ meant twosComplement two m
+pub meant_plain : (v : ℤ) (n m : ℕ) → v ≡ pos n → n ≡ m → n < 32768 → v ≡ meant twos_complement two m
 unfolding meant
 meant_plain v n m e f h = e ∙ rw (← f, lt-ltb n 32768 h)
 
 pub meant_below : (v u : ℤ) (n m k : ℕ) → v ≡ neg_ℤ u → u ≡ pos k → k ≡ 65536 - n → n ≡ m
-    → n < 65536 → 32768 ≤ n → v ≡ meant twosComplement two m
+    → n < 65536 → 32768 ≤ n → v ≡ meant twos_complement two m
 unfolding meant
 meant_below v u n m k e f g h i j =
     let s : k ≡ suc (65535 - n) = omega arith in

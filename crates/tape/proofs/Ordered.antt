@@ -14,7 +14,7 @@ use Rattle.records.specs.Record.{Rec, row_kind, project_kind, start_kind, close_
 use Rattle.tape.specs.Tape.{at_rows, after_project, line_begun, after_leg, closed, is_leg}
 use Rattle.tape.specs.Tape.{in_phase, with_row, minute_of, start, records_of}
 use Rattle.tape.specs.Fields.{number_at, pick, only, DoesRead}
-use Rattle.tape.specs.Legs.{Legs, last, leg, Order, row as a-row, opens}
+use Rattle.tape.specs.Legs.{Legs, last, leg, Order, row as a_row, opens}
 use Rattle.tape.specs.Passing.{InLine}
 use Rattle.tape.specs.declared.State.{State}
 use Rattle.tape.proofs.Coming.{In, Came, row, project, start as begins, leg as a_leg, close}
@@ -172,7 +172,7 @@ module _ (st u end : State) (r : Rec) (rs : List Rec) where
       let next = ap (λ (x : State). x.next) e in
       let on = i.next (omega arith) in
       record {
-        order = a-row r five i.order;
+        order = a_row r five i.order;
         legs = rw (skips is_leg row_kind r rs five refl) (omega (arith, i.legs));
         few = λ h. i.few (omega arith);
         rows =

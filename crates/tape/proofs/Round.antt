@@ -11,7 +11,7 @@ use lib.ListN.{length, get_or, take, drop, take-append-drop}
 use lib.Seq.{drop-cons, drop-drop, take-add}
 use borrow.Author.Tests.{lt-ltb}
 use Rattle.records.specs.Bytes.{Width, two, four, byte_count, num, bytes, Coding, unsigned}
-use Rattle.records.specs.Bytes.{twosComplement, capacity, meant, written}
+use Rattle.records.specs.Bytes.{twos_complement, capacity, meant, written}
 use Rattle.records.specs.Record.{Field, kind_fields, total, numbers, spell, body_of, bytes_of}
 use Rattle.records.specs.Record.{numbers_of}
 use Rattle.tape.specs.Tape.{Step, Next, Stop, walk, step_of, judge, on_step, start, reading_of}
@@ -33,7 +33,7 @@ Bytes l = (i : ℕ) → get_or l i 0 < 256
 written_meant : (c : Coding) (w : Width) (n : ℕ) → n < capacity w → written w (meant c w n) ≡ n
 unfolding meant written
 written_meant unsigned w n h = refl
-written_meant twosComplement w n h =
+written_meant twos_complement w n h =
     by_test (λ z. written w z ≡ n) (ltb n (capacity w / 2)) (λ t. refl) (λ t. omega arith)
 
 -- the bytes from place k on, of which the first is x

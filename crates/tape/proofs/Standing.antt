@@ -11,14 +11,14 @@ use lib.IntN.{ℤ}
 use lib.ListN.{length}
 use borrow.Author.Tests.{eq-eqb, ne_eqb}
 use Rattle.whole.specs.declared.Whole.{Whole}
-use Rattle.records.specs.Bytes.{two, four, num, meant, unsigned, twosComplement}
+use Rattle.records.specs.Bytes.{two, four, num, meant, unsigned, twos_complement}
 use Rattle.records.specs.Record.{Rec, row_kind, project_kind, start_kind, close_kind, kind_fields}
 use Rattle.records.specs.Record.{table, body_of}
 use Rattle.tape.specs.Tape.{at_rows, closed, is_leg, start, records_of, reading_of, told_reading}
 use Rattle.tape.specs.Fields.{signed_at, number_at, pick, only, place_of, is_row, scale_of, picked}
 use Rattle.tape.specs.Fields.{control_of, taken_if, taken_of, told_taken, ReadsTo, DoesRead}
 use Rattle.tape.specs.Fields.{fields_of as named}
-use Rattle.tape.specs.Legs.{Rest, Legs, last, leg, Order, row as a-row, opens}
+use Rattle.tape.specs.Legs.{Rest, Legs, last, leg, Order, row as a_row, opens}
 use Rattle.tape.specs.declared.State.{State}
 use Rattle.tape.specs.declared.Control.{Control}
 use Rattle.tape.specs.declared.Reading.{Reading}
@@ -57,7 +57,7 @@ found : (tape : List ℕ) {rs : List Rec} → Order rs → (at q : ℕ) → Rest
     → q ≡ at + 7 * length (pick (eqb row_kind) rs)
     → Found tape rs at q
 unfolding body_of kind_fields table
-found tape (a-row r {rs} e o) at q h f =
+found tape (a_row r {rs} e o) at q h f =
     let i = found tape o (at + 7) q (after tape at row_kind (at + 7) r rs h e (omega arith))
     (rw (pick_yes (eqb row_kind) r rs (eq-eqb row_kind r.kind (sym e))) at f ∙ omega arith) in
     record {
@@ -136,7 +136,7 @@ shut_legs tape (leg r {rs} e l) at h =
     (shut_legs tape l _ (rest_next tape at r rs h))
 
 shut : (tape : List ℕ) {rs : List Rec} → Order rs → (at : ℕ) → Rest tape at rs → Shut tape rs at
-shut tape (a-row r {rs} e o) at h =
+shut tape (a_row r {rs} e o) at h =
     shut_on tape at r rs (rw e) (shut tape o _ (rest_next tape at r rs h))
 shut tape (opens p s l {rs} one second is legs) at h =
     let g = rest_next tape at p (s ∷ l ∷ rs) h in
@@ -270,7 +270,7 @@ module _ (tape : List ℕ) (last : State) (to : ReadsTo tape last) where
   legs_are = omega (arith, (order_of tape does).legs)
 
   elevation_is : signed_at (only project_kind (records_of tape)) 1
-      ≡ meant twosComplement two (num two tape (last.rows * 7 + 3))
+      ≡ meant twos_complement two (num two tape (last.rows * 7 + 3))
   unfolding kind_fields table
   elevation_is =
       let b = opening in
@@ -303,7 +303,7 @@ module _ (tape : List ℕ) (last : State) (to : ReadsTo tape last) where
       (latitude scale north east mark to_north to_east given : ℕ)
       → begin ≡ last.rows * 7 + 5 → line ≡ begin + 13 → at ≡ length tape - 17
       → latitude ≡ num two tape (last.rows * 7 + 1)
-      → elevation.v ≡ meant twosComplement two (num two tape (last.rows * 7 + 3))
+      → elevation.v ≡ meant twos_complement two (num two tape (last.rows * 7 + 3))
       → scale ≡ num four tape ((last.rows - (last.next - latitude)) * 7 + 3)
       → north ≡ num four tape (begin + 1) → east ≡ num four tape (begin + 5)
       → mark ≡ num four tape (begin + 9)
@@ -326,7 +326,7 @@ module _ (tape : List ℕ) (last : State) (to : ReadsTo tape last) where
       let close : at ≡ closing.place = omega (arith, close_long) in
       let begins : line ≡ last.rows * 7 + 18 = omega arith in
       let high : elevation ≡ record {
-        v = meant twosComplement two (num two tape (last.rows * 7 + 3));
+        v = meant twos_complement two (num two tape (last.rows * 7 + 3));
       } = rw (← e) in
       rw (
         legs_are,

@@ -1,6 +1,6 @@
 // The numbers that bytes spell, the high byte first.
 ghost use Rattle.std.specs.Prelude.{◌≡◌, ◌+◌, ◌<◌, ◌≤◌, length};
-ghost use Rattle.records.specs.Bytes.{num, two, four, meant, twosComplement};
+ghost use Rattle.records.specs.Bytes.{num, two, four, meant, twos_complement};
 
 use whole::Whole;
 
@@ -31,7 +31,7 @@ pub fn four_at(s: &[u8], at: usize) -> u32
 // Two bytes in two's complement.
 pub fn signed_at(s: &[u8], at: usize) -> Whole
     requires { at + 2 ≤ length s.now }
-    ensures is { result.v ≡ meant twosComplement two (num two s.now at) }
+    ensures is { result.v ≡ meant twos_complement two (num two s.now at) }
 {
     let n = two_at(s, at);
     if n < 32768 {

@@ -12,7 +12,7 @@ use lib.Dec.{eqb, ltb}
 use lib.IntN.{ℤ, pos}
 use lib.ListN.{length, get_or, drop, length-drop, get_or-eq_default}
 use borrow.Author.Tests.{eqb-true, lt-ltb, le-ltb, eq-eqb, ne_eqb, le-leb, lt-leb}
-use Rattle.records.specs.Bytes.{two, four, num, meant, twosComplement}
+use Rattle.records.specs.Bytes.{two, four, num, meant, twos_complement}
 use Rattle.records.specs.Record.{body_of, numbers_of, kind_fields, table, good_of}
 use Rattle.tape.specs.Tape.{after_project, line_begun, after_leg, closed, is_leg, in_phase}
 use Rattle.tape.specs.Tape.{with_row, with_leg, Step, Next, Stop, may_come, room_of, row_next}
@@ -236,7 +236,7 @@ module _ (s : List ℕ) (c : Cursor) where
 
       module _ (fits : 4 < length s - at) (latitude : ℕ) (elevation : ℤ) (g : Bool)
           (l : latitude ≡ num two s (at + 1))
-          (f : elevation ≡ meant twosComplement two (num two s (at + 3)))
+          (f : elevation ≡ meant twos_complement two (num two s (at + 3)))
           (i : g ≡ good_of 1 (pos latitude ∷ elevation ∷ [])) where
         project_numbers : numbers_of 1 (drop at s) ≡ pos latitude ∷ elevation ∷ []
         unfolding numbers_of kind_fields table meant
