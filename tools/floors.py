@@ -29,7 +29,7 @@ def used(name: str, names: set[str]) -> set[str]:
     for path in (ROOT / "crates" / name).rglob("*"):
         if path.suffix in (".rt", ".antt"):
             text = path.read_text(encoding="utf-8")
-            found.update(re.findall(r"Rattle·(\w+)[.·]", text))
+            found.update(re.findall(r"\bRattle\.(\w+)\.", text))
             found.update(re.findall(r"\b(\w+)::", text) if path.suffix == ".rt" else [])
     return (found & names) - {name}
 
