@@ -25,7 +25,7 @@ def sources() -> list[Path]:
         path
         for folder in ("crates", "rust", "second", "tools")
         for path in (ROOT / folder).rglob("*")
-        if path.suffix in (".rt", ".rs", ".antt", ".py") and "target" not in path.parts
+        if path.suffix in (".rt", ".rs", ".antt", ".py") and not {"out", "target"} & set(path.parts)
     ]
 
 
@@ -42,7 +42,7 @@ def known() -> set[str]:
     for path in (ROOT / "crates").glob("*"):
         names.add(path.name)
         names.update(edit.stem for edit in path.glob("must-fail/*.edit"))
-    return names | {name.strip("_") for name in names} | LANGUAGE
+    return names | {name.strip("_◌") for name in names} | LANGUAGE
 
 
 def cited(page: Path) -> list[tuple[int, str]]:
@@ -58,7 +58,7 @@ def cited(page: Path) -> list[tuple[int, str]]:
 
 def is_name(quoted: str) -> bool:
     """Whether it is one name or path, and not a piece of code or a command."""
-    return bool(re.fullmatch(r"[\w./:·′→≤ᶻ<-]+(?:\(\))?", quoted)) and not re.fullmatch(r"[\d.,:]+|-\w+|--.*", quoted)
+    return bool(re.fullmatch(r"[\w./:'◌→≤ᶻ<-]+(?:\(\))?", quoted)) and not re.fullmatch(r"[\d.,:]+|-\w+|--.*", quoted)
 
 
 def stands(quoted: str, names: set[str], page: Path) -> bool:
