@@ -16,7 +16,8 @@ DEFINED = (
     re.compile(r"^(?:def|class)\s+(\w+)|^([A-Z_]+) =", re.M),  # Python
 )
 
-LANGUAGE = {"rt", "use", "search", "requires", "ensures", "unfolding", "refl", "u8", "u32", "u64", "usize", "i64"}
+LANGUAGE = {"rt", "use", "search", "requires", "ensures", "result", "unfolding", "refl", "u8", "u32", "u64", "usize", "i64"}
+LANGUAGE |= {"now", "old", "new", "field", "le_z", "lt_z"}  # of a reference and of a record; of ℤ
 
 
 def sources() -> list[Path]:
@@ -69,7 +70,9 @@ def stands(quoted: str, names: set[str], page: Path) -> bool:
     places = (ROOT / quoted, ROOT / "crates" / quoted, page.parent / quoted, *(crate / quoted for crate in (ROOT / "crates").glob("*")))
     if any(place.exists() for place in places):
         return True
-    return all(part in names for part in quoted.split("::"))
+    # of a value, as `w.v` or `out.new`, the field
+    field = re.fullmatch(r"(?:[a-z]|out)\.([a-z]+)", quoted)
+    return all(part in names for part in ([field[1]] if field else quoted.split("::")))
 
 
 def main() -> None:
