@@ -42,7 +42,7 @@ build_now() {
     log=$(made_of "$1").log
     mkdir -p "${log%/*}"
     (cd "$root/crates/$1" && rt run </dev/null 2>&1 >/dev/null 9<&-) | tee "$log" |
-        sed -un '/^rt: running /d; /^rt: /p' >&2 || true
+        sed -un '/^rt: \(running\|chose\) /d; /^rt: /p' >&2 || true
     grep -q "^rt: running out/$1\b" "$log" || fail "the program $1 was not built; $log says why"
     touch -c "$(made_of "$1")"
 }
