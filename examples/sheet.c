@@ -1,6 +1,6 @@
 /* The desk from C, or C++: tapes in, their sheets out.
  *
- *     (cd crates/vastrudhil && rt lib)
+ *     (cd crates/vastrudhil && rt lib --cpu x86-64)
  *     gcc -Iinclude examples/sheet.c crates/vastrudhil/out/libvastrudhil.a -o sheet-in-c
  *     ./sheet-in-c < examples/yard.tape
  *     ./sheet-in-c examples/yard.tape examples/hill_yard.tape

@@ -30,7 +30,7 @@ fn main() {
     println!("cargo:rerun-if-changed={}", library.display());
     if !library.exists() {
         println!(
-            "cargo:warning=no {}: make it by rt lib in crates/vastrudhil",
+            "cargo:warning=no {}: make it by rt lib --cpu x86-64 in crates/vastrudhil",
             library.display()
         );
     }
