@@ -31,18 +31,18 @@ def sources() -> list[Path]:
 
 
 def known() -> set[str]:
-    """Every name that a source defines, every file's own name, and the labels of the edits that must fail."""
+    """Every name that a source defines, every file's own name, the labels of the edits, and the goals that these name."""
     names: set[str] = set()
+    edits = [*ROOT.glob("crates/*/must-fail/*.edit"), *ROOT.glob("trials/*/*.edit")]
+    names.update(path.stem for path in edits)
+    names.update(name for path in edits for name in re.findall(r"^new: pub (\S+) : goal\.", path.read_text(encoding="utf-8"), re.M))
     for path in sources():
         text = path.read_text(encoding="utf-8")
         names.add(path.name)
         for pattern in DEFINED:
             names.update(name for found in pattern.findall(text) for name in ([found] if isinstance(found, str) else found) if name)
     names.update(path.name for path in (ROOT / "tools").iterdir())
-    names.update(path.stem for path in (ROOT / "trials").glob("*/*.edit"))
-    for path in (ROOT / "crates").glob("*"):
-        names.add(path.name)
-        names.update(edit.stem for edit in path.glob("must-fail/*.edit"))
+    names.update(path.name for path in (ROOT / "crates").glob("*"))
     return names | {name.strip("_◌") for name in names} | LANGUAGE
 
 
