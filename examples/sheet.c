@@ -1,9 +1,9 @@
 /* The desk from C, or C++: tapes in, their sheets out.
  *
- *     rt staticlib vastrudhil
- *     gcc -Iinclude examples/sheet.c target/staticlib/libvastrudhil.a -o target/sheet
- *     target/sheet < examples/yard.tape
- *     target/sheet examples/yard.tape examples/hill_yard.tape
+ *     (cd crates/vastrudhil && rt lib --cpu x86-64)
+ *     gcc -Iinclude examples/sheet.c crates/vastrudhil/out/libvastrudhil.a -o sheet-in-c
+ *     ./sheet-in-c < examples/yard.tape
+ *     ./sheet-in-c examples/yard.tape examples/hill_yard.tape
  *
  * A tape is read from each file that is named, or from standard input where none is. Sheets are
  * printed in that order, one after the other; a refused tape has one line instead, REFUSED and the

@@ -1,6 +1,6 @@
 //! Links the desk's static library, libvastrudhil.a. It is looked for in the folder that
-//! VASTRUDHIL_LIB names, or else where `rt staticlib vastrudhil` leaves it. VASTRUDHIL_LIB must be
-//! an absolute path: cargo runs this script and the linker in folders of its own choice.
+//! VASTRUDHIL_LIB names, or else where `rt lib` leaves it, crates/vastrudhil/out. VASTRUDHIL_LIB
+//! must be an absolute path: cargo runs this script and the linker in folders of its own choice.
 //!
 //! The library is for x86-64. For another target nothing is linked, so that the crate can still be
 //! checked there; VASTRUDHIL_LINK=1 links all the same, for a library of one's own making.
@@ -18,7 +18,7 @@ fn main() {
     }
     let folder = match env::var_os("VASTRUDHIL_LIB") {
         Some(folder) => PathBuf::from(folder),
-        None => PathBuf::from(set_by_cargo("CARGO_MANIFEST_DIR")).join("../target/staticlib"),
+        None => PathBuf::from(set_by_cargo("CARGO_MANIFEST_DIR")).join("../crates/vastrudhil/out"),
     };
     if folder.is_relative() {
         println!(
@@ -30,7 +30,7 @@ fn main() {
     println!("cargo:rerun-if-changed={}", library.display());
     if !library.exists() {
         println!(
-            "cargo:warning=no {}: make it by rt staticlib vastrudhil",
+            "cargo:warning=no {}: make it by rt lib --cpu x86-64 in crates/vastrudhil",
             library.display()
         );
     }

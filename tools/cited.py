@@ -16,7 +16,8 @@ DEFINED = (
     re.compile(r"^(?:def|class)\s+(\w+)|^([A-Z_]+) =", re.M),  # Python
 )
 
-LANGUAGE = {"rt", "use", "search", "requires", "ensures", "unfolding", "refl", "u8", "u32", "u64", "usize", "i64"}
+LANGUAGE = {"rt", "use", "search", "requires", "ensures", "result", "unfolding", "refl", "u8", "u32", "u64", "usize", "i64"}
+LANGUAGE |= {"now", "old", "new", "field", "le_z", "lt_z"}  # of a reference and of a record; of ℤ
 
 
 def sources() -> list[Path]:
@@ -25,24 +26,24 @@ def sources() -> list[Path]:
         path
         for folder in ("crates", "rust", "second", "tools")
         for path in (ROOT / folder).rglob("*")
-        if path.suffix in (".rt", ".rs", ".antt", ".py") and "target" not in path.parts
+        if path.suffix in (".rt", ".rs", ".antt", ".py") and not {"out", "target"} & set(path.parts)
     ]
 
 
 def known() -> set[str]:
-    """Every name that a source defines, every file's own name, and the labels of the edits that must fail."""
+    """Every name that a source defines, every file's own name, the labels of the edits, and the goals that these name."""
     names: set[str] = set()
+    edits = [*ROOT.glob("crates/*/must-fail/*.edit"), *ROOT.glob("trials/*/*.edit")]
+    names.update(path.stem for path in edits)
+    names.update(name for path in edits for name in re.findall(r"^new: pub (\S+) : goal\.", path.read_text(encoding="utf-8"), re.M))
     for path in sources():
         text = path.read_text(encoding="utf-8")
         names.add(path.name)
         for pattern in DEFINED:
             names.update(name for found in pattern.findall(text) for name in ([found] if isinstance(found, str) else found) if name)
     names.update(path.name for path in (ROOT / "tools").iterdir())
-    names.update(path.stem for path in (ROOT / "trials").glob("*/*.edit"))
-    for path in (ROOT / "crates").glob("*"):
-        names.add(path.name)
-        names.update(edit.stem for edit in path.glob("must-fail/*.edit"))
-    return names | {name.strip("_") for name in names} | LANGUAGE
+    names.update(path.name for path in (ROOT / "crates").glob("*"))
+    return names | {name.strip("_◌") for name in names} | LANGUAGE
 
 
 def cited(page: Path) -> list[tuple[int, str]]:
@@ -58,7 +59,7 @@ def cited(page: Path) -> list[tuple[int, str]]:
 
 def is_name(quoted: str) -> bool:
     """Whether it is one name or path, and not a piece of code or a command."""
-    return bool(re.fullmatch(r"[\w./:·′→≤ᶻ<-]+(?:\(\))?", quoted)) and not re.fullmatch(r"[\d.,:]+|-\w+|--.*", quoted)
+    return bool(re.fullmatch(r"[\w./:'◌→≤ᶻ<-]+(?:\(\))?", quoted)) and not re.fullmatch(r"[\d.,:]+|-\w+|--.*", quoted)
 
 
 def stands(quoted: str, names: set[str], page: Path) -> bool:
@@ -69,7 +70,9 @@ def stands(quoted: str, names: set[str], page: Path) -> bool:
     places = (ROOT / quoted, ROOT / "crates" / quoted, page.parent / quoted, *(crate / quoted for crate in (ROOT / "crates").glob("*")))
     if any(place.exists() for place in places):
         return True
-    return all(part in names for part in quoted.split("::"))
+    # of a value, as `w.v` or `out.new`, the field
+    field = re.fullmatch(r"(?:[a-z]|out)\.([a-z]+)", quoted)
+    return all(part in names for part in ([field[1]] if field else quoted.split("::")))
 
 
 def main() -> None:

@@ -26,25 +26,37 @@ wrong_call() { fail "$*; $command --help says how it is called"; }
 
 # ---- programs
 
+# What rt makes of a program.
+made_of() { printf '%s\n' "$root/crates/$1/out/$1"; }
+
 is_built() {
-    [ -x "$root/target/bin/$1" ] &&
-        [ -z "$(find "$root/crates" "$root/crates.txt" -type f -newer "$root/target/bin/$1" \
-            -print -quit)" ]
+    [ -x "$(made_of "$1")" ] &&
+        [ -z "$(find "$root/crates" "$root/crates.txt" -name out -prune -o \
+            -type f -newer "$(made_of "$1")" -print -quit)" ]
+}
+
+# Builds a program, which rt runs too, on no input. The program may end with any status; rt says
+# that it runs it only where all is proved and built.
+build_now() {
+    local log
+    log=$(made_of "$1").log
+    mkdir -p "${log%/*}"
+    (cd "$root/crates/$1" && rt run </dev/null 2>&1 >/dev/null 9<&-) | tee "$log" |
+        sed -un '/^rt: \(running\|chose\) /d; /^rt: /p' >&2 || true
+    grep -q "^rt: running out/$1\b" "$log" || fail "the program $1 was not built; $log says why"
+    touch -c "$(made_of "$1")"
 }
 
 # Two commands may be called at once: the build of one waits for that of the other.
 build() {
-    mkdir -p "$root/target"
-    exec 9>"$root/target/building"
+    exec 9<"$root/crates.txt"
     flock 9
     if ! is_built "$1"; then
-        say "building the program $1 and proving the crates that it stands on, once: two to three" \
-            "minutes on two cores, less where crates are proved already"
-        (cd "$root" && rt check "$1" 2>&1 9>&-) | sed -un '/^rt: /p' >&2 ||
-            fail "the program $1 was not built; $root/target/log/ says why"
-        touch -c "$root/target/bin/$1"
+        say "building the program $1 and proving the crates that it stands on, once: some minutes," \
+            "less where crates are proved already"
+        build_now "$1"
     fi
-    exec 9>&-
+    exec 9<&-
 }
 
 # What the search for a blunder runs on.
@@ -67,21 +79,8 @@ need() {
     done
 }
 
-# A program on standard input. Programs are compiled for x86-64: on another machine the kit's
-# emulator runs them.
-run() {
-    local machine tools
-    machine=$(uname -m)
-    tools=${RATTLE_HOME:-$(dirname "$(dirname "$(readlink -f "$(command -v rt)")")")}
-    tools=$tools/on/$machine/toolchain
-    local words=("$tools/lib/ld-linux-x86-64.so.2" --library-path "$tools/lib")
-    if [ "$machine" != x86_64 ]; then
-        [ -x "$tools/bin/qemu-x86_64" ] ||
-            fail "programs are compiled for x86-64, and this kit has no emulator for $machine"
-        words=("$tools/bin/qemu-x86_64" "${words[@]}")
-    fi
-    "${words[@]}" "$root/target/bin/$1" || fail "the program $1 did not run to its end"
-}
+# A program on standard input.
+run() { "$(made_of "$1")" || fail "the program $1 did not run to its end"; }
 
 # ---- what a command reads
 

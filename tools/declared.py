@@ -122,8 +122,8 @@ def main(crate: Path = CRATE) -> None:
     rust = of_code([RUST], r"pub (?:safe )?fn (\w+)\(([^()]*)\)(?: -> (\w+))?;", ["fn "], lists=False)
     rattle = of_code(
         sorted((crate / "src").rglob("*.rt")),
-        r"#\[no_mangle\]\s+pub extern \"C\" fn (\w+)\(([^()]*)\)(?:\s*->\s*(\w+))?",
-        ["#[no_mangle]", 'extern "C"'],
+        r"#\[unsafe\(no_mangle\)\]\s+pub extern \"C\" fn (\w+)\(([^()]*)\)(?:\s*->\s*(\w+))?",
+        ["no_mangle", 'extern "C"'],
         lists=True,
     )
     found = differences(RUST, rust.functions, header.functions) + differences(crate, rattle.functions, header.functions)

@@ -19,17 +19,18 @@ def listed() -> dict[str, set[str]]:
     """crates.txt: each crate with what it stands on; crates of the kit left out."""
     lines = (ROOT / "crates.txt").read_text(encoding="utf-8").splitlines()
     pairs = [line.split(":") for line in lines if line and not line.startswith("#")]
-    names = {name for name, _ in pairs}
-    return {name: set(below.split()) & names for name, below in pairs}
+    # a line may have words after the name, as `vastrudhil staticlib: desk ..` has
+    stands_on = {head.split()[0]: set(below.split()) for head, below in pairs}
+    return {name: below & stands_on.keys() for name, below in stands_on.items()}
 
 
 def used(name: str, names: set[str]) -> set[str]:
     """The crates that the sources of a crate name themselves."""
     found: set[str] = set()
     for path in (ROOT / "crates" / name).rglob("*"):
-        if path.suffix in (".rt", ".antt"):
+        if path.suffix in (".rt", ".antt") and "out" not in path.parts:
             text = path.read_text(encoding="utf-8")
-            found.update(re.findall(r"Rattle·(\w+)[.·]", text))
+            found.update(re.findall(r"\bRattle\.(\w+)\.", text))
             found.update(re.findall(r"\b(\w+)::", text) if path.suffix == ".rt" else [])
     return (found & names) - {name}
 

@@ -10,7 +10,7 @@ from pathlib import Path
 
 ROOT = Path(__file__).resolve().parent.parent
 # a definition, a record or a type that a file makes; what it takes over by `use` and `mod` is none
-DEFINED = re.compile(r"^(?:(?:abbrev|unfoldable) )?pub (?!use |mod )(?:record |data )?(\S+)", re.M)
+DEFINED = re.compile(r"^(?:(?:abbrev|unfoldable|opaque) )?pub (?!use |mod )(?:record |data )?(\S+)", re.M)
 
 
 def main() -> None:

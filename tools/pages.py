@@ -1,9 +1,9 @@
 #!/usr/bin/env python3
-"""Checks the pages, every .md file of the repository outside target/ folders: every Markdown link
-leads to a file, and to a heading where it names one; every page is linked from the README or from
-a page that the README links; no line has more than 100 columns. Tables, code blocks, lines that are
-one link and what a program makes may be wider. Run from anywhere: tools/pages.py; it prints what it
-finds, and ends with 1 if there is any."""
+"""Checks the pages, every .md file of the repository outside the folders out/ and target/: every
+Markdown link leads to a file, and to a heading where it names one; every page is linked from the
+README or from a page that the README links; no line has more than 100 columns. Tables, code blocks,
+lines that are one link and what a program makes may be wider. Run from anywhere: tools/pages.py; it
+prints what it finds, and ends with 1 if there is any."""
 
 import re
 import sys
@@ -29,7 +29,7 @@ def name(page: Path) -> str:
 def every_page() -> list[Path]:
     """The pages of the repository, in the order of their names."""
     found = (page.relative_to(ROOT) for page in ROOT.rglob("*.md"))
-    kept = (page for page in found if not {"target", ".git"} & set(page.parts))
+    kept = (page for page in found if not {"out", "target", ".git"} & set(page.parts))
     return [ROOT / page for page in sorted(kept)]
 
 

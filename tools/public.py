@@ -36,7 +36,7 @@ def functions(source: Path) -> list[Function]:
             of = f"{block[1]}::"
         elif function := re.match(r'\s*pub (extern "C" )?fn (\w+)', line):
             contract = takewhile(lambda part: part.strip() != "{", lines[number:])
-            asks = any(part.lstrip().startswith("requires") for part in contract)
+            asks = any(re.search(r"\brequires\b", part.partition("//")[0]) for part in contract)
             found.append(Function(of + function[2], bool(function[1]), asks))
     return found
 
@@ -72,7 +72,8 @@ def quoted(page: Path, start: str = "") -> set[str]:
 
 def main() -> None:
     exceptions = quoted(ROOT / "docs" / "EXCEPTIONS.md")
-    crates = re.findall(r"^(\w+):", (ROOT / "crates.txt").read_text(encoding="utf-8"), re.M)
+    lines = (ROOT / "crates.txt").read_text(encoding="utf-8").splitlines()
+    crates = [line.split(":")[0].split()[0] for line in lines if line and line[0] != "#"]
     asking, lacking = [], []
     for crate in crates:
         laws = quoted(ROOT / "crates" / crate / "proofs" / "Single.antt", "--")

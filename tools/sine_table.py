@@ -6,7 +6,7 @@ the sine's series through the 19th power up to and including 45 degrees, the cos
 complement through the 20th above, with pi = 3.14159265358979323846.
 
 usage: tools/sine_table.py write    write the constant of the code and the list of the proofs
-                                    (then `rt fmt`)
+                                    (then `rt fmt` in crates/minutes)
        tools/sine_table.py check    say whether both are what this program makes
 """
 import pathlib
@@ -21,19 +21,9 @@ ROOT = pathlib.Path(__file__).resolve().parent.parent
 CONSTANT = ROOT / "crates/minutes/src/constant.rt"
 LISTED = ROOT / "crates/minutes/proofs/Listed.antt"
 
-CONSTANT_HEAD = """\
-// The nine-decimal sines of the whole minutes from 0 to 90 degrees, made by tools/sine_table.py.
-pub const MINUTES: [u32; 5401] = [
-"""
-LISTED_HEAD = """\
--- The table of src/constant.rt as a list, made by tools/sine_table.py. That the two are the same is
--- checked where the code returns its constant.
-use mathlib.Core.List.{List, [], _∷_}
-use Prim.Native.Nat.{ℕ}
-
-unfoldable pub minutes : List ℕ
-minutes =
-"""
+# what the entries stand after, in each
+CONSTANT_START = "pub const MINUTES: [u32; 5401] = ["
+LISTED_START = "unfoldable pub minutes : List ℕ\nminutes ="
 
 
 def series(first, last, x):
@@ -58,18 +48,25 @@ def table():
     return [nearest(10**9 * exact_sine(minute)) for minute in range(LAST + 1)]
 
 
+def halves(path, start):
+    """What a file has up to the end of the text `start`, and after it."""
+    before, found, after = path.read_text(encoding="utf-8").partition(start)
+    if not found:
+        sys.exit(f"{path.relative_to(ROOT)}: has no {start!r}")
+    return before + found, after
+
+
 def write(entries):
-    """Writes the constant and the list."""
+    """Writes the entries of the constant and of the list; what stands before them stays."""
     lines = "".join(f"    {entry},\n" for entry in entries)
-    CONSTANT.write_text(CONSTANT_HEAD + lines + "];\n", encoding="utf-8")
+    CONSTANT.write_text(f"{halves(CONSTANT, CONSTANT_START)[0]}\n{lines}];\n", encoding="utf-8")
     items = " ∷ ".join(map(str, entries))
-    LISTED.write_text(LISTED_HEAD + f"    {items} ∷ []\n", encoding="utf-8")
+    LISTED.write_text(f"{halves(LISTED, LISTED_START)[0]}\n    {items} ∷ []\n", encoding="utf-8")
 
 
 def numbers(path, start):
     """The numbers of the list that opens after the text `start`."""
-    text = path.read_text(encoding="utf-8").split(start, 1)[1]
-    return [int(n) for n in re.findall(r"\d+", text)]
+    return [int(n) for n in re.findall(r"\d+", halves(path, start)[1])]
 
 
 def matches(path, found, entries):
@@ -86,8 +83,8 @@ def matches(path, found, entries):
 
 def check(entries):
     """Whether the constant and the list are those of the rule; both are looked at."""
-    constant = matches(CONSTANT, numbers(CONSTANT, "[u32; 5401] = ["), entries)
-    listed = matches(LISTED, numbers(LISTED, "minutes =\n"), entries)
+    constant = matches(CONSTANT, numbers(CONSTANT, CONSTANT_START), entries)
+    listed = matches(LISTED, numbers(LISTED, LISTED_START), entries)
     return constant and listed
 
 
