@@ -1,6 +1,8 @@
 -- What is printed of the bytes that were read is printed of the whole input: either these are all,
 -- or they are as many as are enough.
-use Rattle.std.proofs.Common.{ℕ, ◌≡◌, ◌<◌, ◌≤◌, List, ◌++◌, ⊎_elim, arith, length, take, drop, sym, ap, subst, ◌∙◌, IfSome, OnOk, Ok, Err, Some, None, append-nil, length-take-le}
+use Rattle.std.proofs.Common.{ℕ, ◌≡◌, ◌<◌, ◌≤◌, List, ◌++◌, ⊎_elim, arith, length, take, drop, sym}
+use Rattle.std.proofs.Common.{ap, subst, ◌∙◌, IfSome, OnOk, Ok, Err, Some, None, append-nil}
+use Rattle.std.proofs.Common.{length-take-le}
 use Rattle.std.proofs.lemmas.Bool.{cases_lt}
 use Rattle.std.proofs.Math.Seq.{take-append_seam}
 use Rattle.std.specs.Io.KnownBytes.{Appends, Consumes, IsAtEnd}

@@ -31,7 +31,8 @@ module _ (l : List ℕ) (k a b : ℕ) where
   num_four e f = let g : k + 2 ≡ suc (suc k) = omega arith in rw (e, f, g) (omega arith)
 
 -- ---- two bytes in two's complement, as the code tells them apart
-pub meant_plain : (v : ℤ) (n m : ℕ) → v ≡ pos n → n ≡ m → n < 32768 → v ≡ meant twos_complement two m
+pub meant_plain : (v : ℤ) (n m : ℕ) → v ≡ pos n → n ≡ m → n < 32768
+    → v ≡ meant twos_complement two m
 unfolding meant
 meant_plain v n m e f h = e ∙ rw (← f, lt-ltb n 32768 h)
 
