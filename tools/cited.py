@@ -38,7 +38,7 @@ def known() -> set[str]:
     names: set[str] = set()
     edits = [*ROOT.glob("crates/*/must-fail/*.edit"), *ROOT.glob("trials/*/*.edit")]
     names.update(path.stem for path in edits)
-    names.update(name for path in edits for name in re.findall(r"^new: pub (\S+) : goal\.", path.read_text(encoding="utf-8"), re.M))
+    names.update(name for path in edits for name in re.findall(r"^new: pub (\S+) :(?: goal\.|$)", path.read_text(encoding="utf-8"), re.M))
     for path in sources():
         text = path.read_text(encoding="utf-8")
         names.add(path.name)
