@@ -206,9 +206,9 @@ print_search() {
 }
 
 # What a program makes of the input, in the file $made: make_by PROGRAM KIND, where KIND is what the
-# program takes, a tape or notes. A program has no exit status of its own: where it made nothing, it
-# has said why on standard error, and the command ends with 1. Of a file of another kind that is
-# said alone; of an empty one it is said first.
+# program takes, a tape or notes. A program's exit status says nothing of the input: where it made
+# nothing, it has said why on standard error, and the command ends with 1. Of a file of another kind
+# that is said alone; of an empty one it is said first.
 make_by() {
     if recognise "$2" "$input" && [ -s "$input" ]; then
         exit 1
