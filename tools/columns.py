@@ -1,10 +1,8 @@
 #!/usr/bin/env python3
 """Checks that no line of the code, the definitions and the proofs (src/, specs/ and proofs/ of each
-crate) has more than 100 columns, but for a line that names a goal of the kit and no more. The pages
-are checked by tools/pages.py. Run from anywhere: tools/columns.py; it prints the lines that are
-wider, and ends with 1 if there is any."""
+crate) has more than 100 columns. The pages are checked by tools/pages.py. Run from anywhere:
+tools/columns.py; it prints the lines that are wider, and ends with 1 if there is any."""
 
-import re
 import sys
 from pathlib import Path
 
@@ -12,8 +10,6 @@ ROOT = Path(__file__).resolve().parent.parent
 COLUMNS = 100
 # The list of the table's entries, which tools/sine_table.py makes.
 MADE = {"crates/minutes/proofs/Listed.antt"}
-# `pub returns : goal.returns`: the kit's name, twice; no shorter line says it
-GOAL = re.compile(r"(?:abbrev )?(?:pub )?(\S+) : goal\.\1")
 KEPT = ("crates/*/src/**/*.rt", "crates/*/specs/**/*.antt", "crates/*/proofs/**/*.antt")
 
 
@@ -23,8 +19,7 @@ def wide(path: Path) -> list[str]:
     name = path.relative_to(ROOT).as_posix()
     if name in MADE:
         return []
-    long = [(n, line) for n, line in enumerate(lines, 1) if COLUMNS < len(line)]
-    return [f"{name}:{n}: {len(line)}" for n, line in long if not GOAL.fullmatch(line)]
+    return [f"{name}:{n}: {len(line)}" for n, line in enumerate(lines, 1) if COLUMNS < len(line)]
 
 
 def main() -> None:
