@@ -1,7 +1,7 @@
 -- The first step on the bytes of a tape that reads. What the walk sights at leg k is the leg's own
 -- angle and distance; the azimuths carried with them are the carried ones, and what is left in the
 -- lists is the traverse with its angles balanced.
-use Prim.Native.Nat.{ℕ, ◌+◌, ◌-◌, ◌≤◌, ◌<◌}
+use Prim.Native.Nat.{ℕ, ◌+◌, ◌≤◌, ◌<◌}
 use native.Mathlib.Omega.{arith}
 use native.Mathlib.Nat.{mod-lt}
 use mathlib.Core.Path.{◌≡◌, ◌∙◌, ap, subst}

@@ -30,7 +30,7 @@ use Rattle.sines.proofs.Turns.{cosine_signed}
 use Rattle.steps.specs.Course.{Axis, north, east, move, sine_along, course, course_step}
 use Rattle.steps.specs.Course.{told_move}
 use Rattle.steps.specs.declared.course.Moves.{Moves}
-use Rattle.steps.specs.declared.course.Moves.TheVariants.{Are, OutOfRange}
+use Rattle.steps.specs.declared.course.Moves.TheVariants.{OutOfRange}
 use Rattle.steps.proofs.Laws.{product_most}
 
 -- ---- a move by the size of its sine: the other way round from the sine

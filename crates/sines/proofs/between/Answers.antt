@@ -1,6 +1,6 @@
 -- `between` meets its contract: a rising line by `rise`, and a falling one down by a part of the
 -- difference, which is never more than the difference.
-use Prim.Native.Nat.{◌+◌, ◌-◌, ◌≤◌}
+use Prim.Native.Nat.{◌+◌, ◌≤◌}
 use native.Mathlib.Omega.{arith}
 use Rattle.sines.proofs.Line.{falling, falling_most}
 use Rattle.sines.proofs.between.Goals as goal

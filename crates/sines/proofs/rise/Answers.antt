@@ -1,6 +1,6 @@
 -- `rise` meets its contract: the rule in sizes, up by a part of the difference, which is never more
 -- than the difference.
-use Prim.Native.Nat.{◌+◌, ◌-◌, ◌≤◌}
+use Prim.Native.Nat.{◌+◌, ◌≤◌}
 use native.Mathlib.Omega.{arith}
 use Rattle.sines.proofs.Line.{rising, rising_most}
 use Rattle.sines.proofs.rise.Goals as goal

@@ -1,5 +1,4 @@
 use borrow.Author.Rules.{rules}
-use Prim.Native.Nat.{◌-◌}
 use Rattle.whole.specs.Filled.{filled}
 use Rattle.desk.proofs.Balancing.{balancing_turned, balancing_next}
 use Rattle.desk.proofs.angles.balance.Goals as goal

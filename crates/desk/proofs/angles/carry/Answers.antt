@@ -1,5 +1,4 @@
 use borrow.Author.Rules.{rules}
-use Prim.Native.Nat.{◌-◌}
 use Rattle.whole.specs.Filled.{filled}
 use Rattle.whole.proofs.Filling.{filled_on}
 use Rattle.desk.proofs.Carrying.{legs_room, mark_turned, first_sight, first_turned}

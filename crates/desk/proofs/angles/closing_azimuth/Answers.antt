@@ -1,5 +1,4 @@
 use borrow.Author.Rules.{rules}
-use Prim.Native.Nat.{◌-◌}
 use Rattle.desk.proofs.Carrying.{mark_turned, first_sight, first_turned}
 use Rattle.desk.proofs.Carrying.{carried_first, next_sight, next_turned, carried_next}
 use Rattle.desk.proofs.angles.closing_azimuth.Goals as goal

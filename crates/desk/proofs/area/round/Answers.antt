@@ -1,6 +1,5 @@
 use borrow.Author.Rules.{rules}
 use mathlib.Core.Path.{refl}
-use Prim.Native.Nat.{◌-◌}
 use Rattle.whole.specs.Sum.{sum_to}
 use Rattle.steps.specs.Area.{doubled_to}
 use Rattle.desk.proofs.area.Looping.{ranged, sum_next, sum_last}

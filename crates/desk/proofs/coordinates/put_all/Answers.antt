@@ -1,6 +1,5 @@
 use borrow.Author.Rules.{rules}
 use mathlib.Core.Path.{refl}
-use Prim.Native.Nat.{◌-◌}
 use Rattle.desk.specs.Inside.{put_to}
 use Rattle.desk.proofs.Settling.{put_next}
 use Rattle.desk.proofs.coordinates.put_all.Goals as goal

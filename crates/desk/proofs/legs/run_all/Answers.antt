@@ -1,5 +1,4 @@
 use borrow.Author.Rules.{rules}
-use Prim.Native.Nat.{◌-◌}
 use Rattle.sines.proofs.Own.{lent_entries}
 use Rattle.desk.proofs.Running.{stands_small, stands_first}
 use Rattle.desk.proofs.Running.{stands_next, ran_first, ran_next}

@@ -1,4 +1,3 @@
-use Prim.Native.Nat.{◌-◌}
 use borrow.Author.Rules.{rules}
 use Rattle.desk.proofs.lines.StationLines.{lines_first, line_room, lines_next}
 use Rattle.desk.proofs.lines.put_stations.Goals as goal

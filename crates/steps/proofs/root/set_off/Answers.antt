@@ -1,5 +1,4 @@
 use borrow.Author.Rules.{rules}
-use Prim.Native.Nat.{◌-◌}
 use Rattle.steps.proofs.root.ByDigits.{passed}
 use Rattle.steps.proofs.root.set_off.Goals as goal
 

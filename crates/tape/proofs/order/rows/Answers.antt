@@ -1,4 +1,3 @@
-use Prim.Native.Nat.{◌-◌}
 use borrow.Author.Rules.{rules}
 use Rattle.records.specs.Record.{body_of, kind_fields, table}
 use Rattle.tape.proofs.order.Parts.{rows_begin, row_here, row_fits, row_few}

@@ -1,5 +1,4 @@
 use borrow.Author.Rules.{rules}
-use Prim.Native.Nat.{◌-◌}
 use Rattle.vastrudhil.proofs.Figures.{stored_next, stored_length, stored_all}
 use Rattle.vastrudhil.proofs.tell.words_of.Goals as goal
 
