@@ -9,7 +9,8 @@ fields and rulesets. Goals and the kit's own names are not: a file that takes a 
 keeps it. Where a definition and a lemma would get one name, the lemma gets `_lem`. Functions of
 src/, exported names, strings, inputs and outputs are left alone. Names are turned in specs/ and
 proofs/, in src/ (there they stand only in clauses and `ghost use` lines), in the texts of edits,
-and on the pages between backquotes. A second run finds nothing to do."""
+and on the pages between backquotes. It is run once: what is
+written later has its names from the start."""
 
 import re
 import sys
@@ -29,6 +30,12 @@ GOAL = re.compile(r":\s+(?:tie|goal)\.")
 # what is declared as none of these: a constructor after another on one line, an alias, and names
 # that an equation or a `let` binds
 LOOSE = ("twosComplement", "a-row", "pos-total", "turns-first")
+# a lemma that port.py has given the name of a definition, and where it is used
+TURNED = {
+    "word_at": ("desk/proofs/Words", "desk/proofs/Accepted", "desk/proofs/Stations"),
+    "no_row": ("tape/proofs/Rows",),
+    "bytes_of": ("text/proofs/Digits",),
+}
 WORD = re.compile(r"^[^\W\d][\w'-]*$")
 
 
@@ -80,6 +87,11 @@ class Names:
             for name in names:
                 self.new[name] = new if name == keeps else new + "_lem"
         self.new = {name: new for name, new in self.new.items() if name != new}
+        for name, files in TURNED.items():
+            paths = [root / f"crates/{file}.antt" for file in files]
+            if name in declared and paths[0] in declared[name]:
+                self.new[name] = name + "_lem"
+                declared[name] = set(paths)
         self.all = set(by_new)
         # a lemma in today's spelling already gives way only where it is declared: its name is also
         # that of a function, or of a folder

@@ -35,7 +35,7 @@ use Rattle.desk.proofs.Compass.{legs_add_up}
 use Rattle.desk.proofs.Settling.{far_run, run_small, closes_near}
 use Rattle.desk.proofs.Stations.{place_small, area_most}
 use Rattle.desk.proofs.Stepping.{tape_ready}
-use Rattle.desk.proofs.Words.{word_at, words_later, first_word, last_word}
+use Rattle.desk.proofs.Words.{word_at_lem, words_later, first_word, last_word}
 
 -- the traverse of a tape, its angles balanced
 abbrev pub balanced_tape : List ℕ → Balanced
@@ -163,7 +163,7 @@ module _ (e : ℕ → ℤ) (tape : List ℕ) (words : List ℤ)
       → get_or (traversed_words_by e tape words) (word_index axis k) (pos 0)
       ≡ adjusted (line e axis b) k
   station axis k h = rw accepted_words
-      (word_at e b words axis (b.legs + 1) k (omega arith) (omega (arith, sound.few, a.wide)))
+      (word_at_lem e b words axis (b.legs + 1) k (omega arith) (omega (arith, sound.few, a.wide)))
 
   -- what the legs are given of a closure adds up to it
   pub accepted_legs_add_up : (axis : Axis)

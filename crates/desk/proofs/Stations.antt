@@ -33,7 +33,7 @@ use Rattle.desk.proofs.Compass.{run_up, first_fixed}
 use Rattle.desk.proofs.Running.{drift}
 use Rattle.desk.proofs.Settling.{far_run, placed_length, closes_near, test_is, put_length}
 use Rattle.desk.proofs.Settling.{put_all_is}
-use Rattle.desk.proofs.Words.{word_at}
+use Rattle.desk.proofs.Words.{word_at_lem}
 
 -- ---- the range of the area step
 small_append : (xs ys : List ℤ) → good_offsets ys ≡ true → good_offsets (xs ++ ys) ≡ good_offsets xs
@@ -98,7 +98,7 @@ module _ (e : ℕ → ℤ) (entries : Entries e) (b : Balanced) (sound : Sound b
       word : (axis : Axis) (k : ℕ) → k ≤ b.legs
           → get_or words (word_index axis k) (pos 0) ≡ adjusted (line e axis b) k
       word axis k h = rw g
-          (word_at e b l axis (b.legs + 1) k (omega arith) (omega (arith, sound.few)))
+          (word_at_lem e b l axis (b.legs + 1) k (omega arith) (omega (arith, sound.few)))
 
       taken_is : (k : ℕ) → k ≤ b.legs → taken_from words k ≡ offsets_to e b k
       unfolding taken_from offsets_to

@@ -28,15 +28,15 @@ module _ (e : ℕ → ℤ) (b : Balanced) (l : List ℤ) where
       (omega arith)
 
   -- the word of each station
-  pub word_at : (axis : Axis) (n k : ℕ) → k < n → 2 * n ≤ length l
+  pub word_at_lem : (axis : Axis) (n k : ℕ) → k < n → 2 * n ≤ length l
       → get_or (with_stations e b n l) (word_index axis k) (pos 0) ≡ adjusted (line e axis b) k
   unfolding with_stations
-  word_at axis zero k h r = absurd (omega arith)
-  word_at axis (suc n) k h r =
+  word_at_lem axis zero k h r = absurd (omega arith)
+  word_at_lem axis (suc n) k h r =
       elim (ℕ_discrete k n) [
         | yes i ↦ rw i (station axis)
         | no i ↦ apart (with_stations e b n l) n _ _ (word_index axis k) (before n k i axis)
-            (later n k i axis) ∙ word_at axis n k (omega arith) (omega arith)
+            (later n k i axis) ∙ word_at_lem axis n k (omega arith) (omega arith)
       ]
     where
       station : (a : Axis)
@@ -49,11 +49,11 @@ module _ (e : ℕ → ℤ) (b : Balanced) (l : List ℤ) where
     pub first_word : (axis : Axis)
         → get_or (with_stations e b (b.legs + 1) l) (word_index axis 0) (pos 0) ≡ pos
         (along axis b.from)
-    first_word axis = word_at axis (b.legs + 1) 0 (omega arith) (omega (arith, sound.few))
+    first_word axis = word_at_lem axis (b.legs + 1) 0 (omega arith) (omega (arith, sound.few))
         ∙ first_fixed (line e axis b) (far_run b sound)
 
     pub last_word : (axis : Axis)
         → get_or (with_stations e b (b.legs + 1) l) (word_index axis b.legs) (pos 0) ≡ pos
         (along axis b.to)
-    last_word axis = word_at axis (b.legs + 1) b.legs (omega arith) (omega (arith, sound.few))
+    last_word axis = word_at_lem axis (b.legs + 1) b.legs (omega arith) (omega (arith, sound.few))
         ∙ last_fixed (line e axis b) (far_run b sound)

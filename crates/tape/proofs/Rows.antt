@@ -109,6 +109,6 @@ refused st m =
     (λ t. (λ e i. omega (arith, ltb-false), λ out. refl)))
 
 -- and so exactly where no row has it
-pub no_row : (st : State) (rs : List Rec) (m : ℕ) → Runs start rs st
+pub no_row_lem : (st : State) (rs : List Rec) (m : ℕ) → Runs start rs st
     → (project_next st m ≡ Stop 7) ↔ (¬ Has m rs)
-no_row st rs m p = Iff.trans (refused st m) (Iff.not (rows_mean st rs m p))
+no_row_lem st rs m p = Iff.trans (refused st m) (Iff.not (rows_mean st rs m p))

@@ -147,9 +147,9 @@ last_digit l at k n =
     (digits_length k (n / 10))
 
 -- the bytes of two digits
-bytes_of : (a b t : ℕ) → a < 10 → b < 10 → t ≡ 48 + a + 256 * (48 + b)
+bytes_of_lem : (a b t : ℕ) → a < 10 → b < 10 → t ≡ 48 + a + 256 * (48 + b)
     → (t % 256 ≡ 48 + a) × (t / 256 % 256 ≡ 48 + b)
-bytes_of a b t h i e = (omega arith, omega arith)
+bytes_of_lem a b t h i e = (omega arith, omega arith)
 
 module _ (l : List ℕ) (at k n : ℕ) where
   pub digits_room : Room l at (digits k n) → at + k ≤ length l
@@ -181,7 +181,7 @@ module _ (l : List ℕ) (at k n : ℕ) where
         let i : suc (suc j) - 2 ≡ j = omega arith in
         let tens : rest % 100 / 10 ≡ rest / 10 % 10 = omega arith in
         let units : rest % 100 % 10 ≡ rest % 10 = omega arith in
-        let (first, last) = bytes_of (rest / 10 % 10) (rest % 10) t (omega arith) (omega arith)
+        let (first, last) = bytes_of_lem (rest / 10 % 10) (rest % 10) t (omega arith) (omega arith)
         (f ∙ rw (tens, units)) in
         let both : rest / 100 ≡ rest / 10 / 10 = omega arith in
         let next : at + j + 1 ≡ at + suc j = omega arith in
