@@ -14,7 +14,7 @@ Curve = list[tuple[float, float]]
 
 PANELS = {"legs": "legs (2 rows)", "rows": "rows (4 legs)"}
 FORMS = {
-    "own": ("proved desk, a table of sines for each call", "#b91c1c"),
+    "own": ("proved desk, its own table of sines", "#b91c1c"),
     "lent": ("proved desk, table of sines lent", "#1d4ed8"),
     "plain C": ("plain C", "#15803d"),
 }

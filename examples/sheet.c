@@ -51,7 +51,7 @@ static int work(const char *name, FILE *file)
 
     /* One call for all: it reads the tape, adjusts the traverse and writes the text. The number is
      * 0 or says which of the nine refusals it is; place says at which byte of the tape. For a
-     * single tape vas_sheet does the same without a table; it then lays out one of its own. */
+     * single tape vas_sheet does the same without a table; it then reads the library's own. */
     uint32_t number = vas_sheet_in(sines, tape, tape_len, text, sizeof text, &place, &length);
 
     if (number != 0) {

@@ -92,10 +92,10 @@ uint32_t vas_grid(uint64_t distance, uint64_t factor, uint64_t *value);
 /* ---- sines */
 
 /* The desk's own table of sines, written into the caller's: the sine of every whole minute from 0
- * to 90 degrees. A function that needs sines and is lent no table lays out this one on its stack,
- * once in a call, after everything that can be refused without a sine. A program that works many
- * tapes takes the table once and lends it to the functions that end in _in: they read it where it
- * stands, answer the same, and write nothing to it, so that threads may share it.
+ * to 90 degrees. A function that needs sines and is lent no table reads this one where it stands in
+ * the library. A program that works many tapes may take the table once and lend it to the functions
+ * that end in _in: they read it where it stands, answer the same, and write nothing to it, so that
+ * threads may share it.
  *
  * A lent table is not checked: lend only what vas_table has filled. With any other, one of zeros
  * among them, a tape may be accepted with wrong stations, and 0 is returned. A table of fewer than

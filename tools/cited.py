@@ -16,11 +16,13 @@ DEFINED = (
     re.compile(r"^(?:def|class)\s+(\w+)|^([A-Z_]+) =", re.M),  # Python
 )
 
-# the page of the port cites what the older kit had, and unfinished work that is in the history alone
-OLDER = ROOT / "docs/PORT.md"
+# the page of the port cites what the older kit had, and unfinished work that is in the history
+# alone; that of the design pass what stood before it
+OLDER = {ROOT / "docs/PORT.md", ROOT / "docs/DESIGN-PASS.md"}
 
 LANGUAGE = {"rt", "use", "search", "requires", "ensures", "result", "unfolding", "refl", "u8", "u32", "u64", "usize", "i64"}
 LANGUAGE |= {"now", "old", "new", "field", "le_z", "lt_z"}  # of a reference and of a record; of ℤ
+LANGUAGE |= {"Result", "Ok", "Err"}  # of the library
 
 
 def sources() -> list[Path]:
@@ -83,7 +85,7 @@ def main() -> None:
     wrong = [
         f"{page.relative_to(ROOT)}:{number}: {quoted}"
         for page in [ROOT / "README.md", *sorted((ROOT / "docs").glob("**/*.md"))]
-        if page != OLDER
+        if page not in OLDER
         for number, quoted in cited(page)
         if is_name(quoted) and not stands(quoted, names, page)
     ]

@@ -1,9 +1,10 @@
 #!/usr/bin/env python3
 """Checks that each of the nine refusals has the same words wherever it is told: in the table of
 docs/REFUSALS.md, at the head of the C header, in the C table of docs/VASTRUDHIL.md, in Rust's
-reason(), in the messages about field notes, and in what the commands in bin/ say. It also checks
-that a message which names a refusal's number in other words stands in docs/REFUSALS.md. Run from
-anywhere: tools/refusals.py; it prints what differs, and ends with 1 if anything does."""
+reason(), in the proved enum of refusals, and in what the commands in bin/ say. It also checks that
+a message about field notes which names a refusal's number in other words stands in
+docs/REFUSALS.md. Run from anywhere: tools/refusals.py; it prints what differs, and ends with 1 if
+anything does."""
 
 import re
 import sys
@@ -15,7 +16,7 @@ HEADER = ROOT / "include" / "vastrudhil.h"
 LIBRARY_PAGE = ROOT / "docs" / "VASTRUDHIL.md"
 RUST = ROOT / "rust" / "src" / "lib.rs"
 MESSAGES = ROOT / "crates" / "notes" / "src" / "message.rt"
-NUMBERS = ROOT / "crates" / "answer" / "src" / "refusal.rt"
+ENUM = ROOT / "crates" / "answer" / "src" / "lib.rt"
 COMMANDS = ROOT / "tools" / "command.sh"
 
 Words = dict[int, str]
@@ -47,20 +48,22 @@ def of_library_page() -> Words:
     return dict(list(enumerate(re.findall(r'^ +"(.*)",$', table, re.M)))[1:])
 
 
+def joined(place: Path) -> str:
+    """The text of a source in which a backslash at a line's end joins it with the next one."""
+    return re.sub(r"\\\n\s*", "", text_of(place))
+
+
 def of_rust() -> Words:
-    # a backslash at a line's end joins it with the next one
-    text = re.sub(r"\\\n\s*", "", text_of(RUST))
-    return by_number(re.findall(r'^ +(\d) => (?:\{\s*)?"([^"]*)"', text, re.M))
+    return by_number(re.findall(r'^ +(\d) => (?:\{\s*)?"([^"]*)"', joined(RUST), re.M))
 
 
-def of_messages() -> Words:
-    """The arms of `refusal_words`, whose numbers have names."""
-    numbers = dict(re.findall(r"^pub const (\w+): u32 = (\d);", text_of(NUMBERS), re.M))
-    arms = text_of(MESSAGES).partition("pub fn refusal_words(")[2].split("refusal::")[1:]
-    return by_number([
-        (numbers[arm.split(" ")[0]], "".join(re.findall(r'b"(.*?)"', arm.partition("_ =>")[0])))
-        for arm in arms
-    ])
+def of_enum() -> Words:
+    """What the cases of the enum display; their numbers count up from 1."""
+    source = joined(ENUM)
+    cases = source.partition("pub enum Refusal {")[2].partition("\n}\n")[0]
+    said = dict(re.findall(r'Refusal::(\w+) => (?:\{\s*)?"([^"]*)"', source))
+    names = re.findall(r"^ +(\w+)(?: = 1)?,$", cases, re.M)
+    return {number: said[name] for number, name in enumerate(names, 1) if name in said}
 
 
 def of_commands() -> Words:
@@ -79,7 +82,7 @@ def differences(place: Path, words: Words, page: Words) -> list[str]:
 
 def numbered() -> list[str]:
     """The messages about notes that name a refusal's number in their own words."""
-    return re.findall(r'b"(\w[^"]* \(refusal \d\))"', text_of(MESSAGES))
+    return re.findall(r'"(\w[^"]* \(refusal \d\))"', joined(MESSAGES))
 
 
 def main() -> None:
@@ -88,7 +91,7 @@ def main() -> None:
         HEADER: of_header,
         LIBRARY_PAGE: of_library_page,
         RUST: of_rust,
-        MESSAGES: of_messages,
+        ENUM: of_enum,
         COMMANDS: of_commands,
     }
     found = [] if sorted(page) == [*range(1, 10)] else [f"docs/REFUSALS.md: has {sorted(page)}"]

@@ -41,9 +41,9 @@
 //!
 //! # Many tapes
 //!
-//! A function that needs sines lays out the desk's table of them, once in a call. A program that
-//! works many tapes makes a [`Desk`], which holds the table, and calls its methods: they answer the
-//! same and take less time and less stack. Threads may share one desk.
+//! A function that needs sines reads the desk's table of them where it stands in the library. A
+//! program that works many tapes may make a [`Desk`], which holds a table of its own, and call its
+//! methods: they answer the same. Threads may share one desk.
 //!
 //! ```
 //! use vastrudhil::{Desk, Refusal};
@@ -505,9 +505,9 @@ pub fn sheet_into_in<'a>(
 /// The desk with its table of sines, for programs that work many tapes.
 ///
 /// Each method answers what the function of the same name answers, for every input. The function
-/// lays out the table in each call; a desk does it once, when it is made, in 21 KB of its own that
-/// do not move with it. No method changes a desk, so threads may share one by reference. Steps that
-/// need no sine are functions only.
+/// reads the table of the library; a desk has its own, in 21 KB that do not move with it. No method
+/// changes a desk, so threads may share one by reference. Steps that need no sine are functions
+/// only.
 ///
 /// ```
 /// # fn main() -> Result<(), vastrudhil::Refusal> {
@@ -534,7 +534,7 @@ pub struct Desk {
 }
 
 impl Desk {
-    /// A desk, its table laid out.
+    /// A desk, with a table of its own.
     pub fn new() -> Self {
         Self::default()
     }

@@ -8,50 +8,45 @@ use native.Mathlib.Omega.{arith}
 use borrow.Author.Tests.{le-leb, lt-leb, lt-ltb, le-ltb}
 use lib.Dec.{leb}
 use lib.IntN.{ℤ, pos, nat_abs}
-use Rattle.whole.specs.declared.Whole.{Whole}
-use Rattle.answer.specs.declared.Amount.TheVariants as amount
-use Rattle.answer.specs.declared.Count.TheVariants as count
-use Rattle.answer.specs.declared.Verdict.TheVariants as verdict
-use Rattle.answer.specs.Told.{ToldStep, told_amount, told_count, told_verdict, given, in_range}
-use Rattle.answer.specs.Told.{inside, passes}
+use Rattle.std.proofs.Common.{rules, Result, Ok, Err, IsOk}
+use Rattle.answer.specs.declared.OutOfRange.{OutOfRange}
+use Rattle.answer.specs.Told.{ToldStep, told, given, in_range, inside, passes}
 
 -- ---- the value, where the input is in range
-pub tells : (good : Bool) (v : Whole) (z : ℤ) → good ≡ true → v.v ≡ z
-    → told_amount (amount.Is v) ≡ in_range good z
-unfolding told_amount
-tells good v z e f = rw e (ap given f)
+pub tells : {A : Type 0} (f : A → ℤ) (good : Bool) (x : A) (z : ℤ) → good ≡ true → f x ≡ z
+    → told f (Ok x) ≡ in_range good z
+unfolding told
+tells f good x z e h = rw e (ap given h)
 
+-- a count, and a test, by the value itself
 pub counts : (good : Bool) (n m : ℕ) → good ≡ true → n ≡ m
-    → told_count (count.Is n) ≡ in_range good (pos m)
-unfolding told_count
-counts good n m e f = rw e (ap (λ (k : ℕ). given (pos k)) f)
+    → told pos (Ok n) ≡ in_range good (pos m)
+counts good n m e h = tells pos good n (pos m) e (ap pos h)
 
-pub passing : (good ok : Bool) → good ≡ true → ok ≡ true
-    → told_verdict verdict.Passes ≡ in_range good (passes ok)
-unfolding told_verdict
-passing good ok e f = rw (e, f)
-
-pub failing : (good ok : Bool) → good ≡ true → ok ≡ false
-    → told_verdict verdict.Fails ≡ in_range good (passes ok)
-unfolding told_verdict
-failing good ok e f = rw (e, f)
+pub tests : (good r ok : Bool) → good ≡ true → r ≡ ok
+    → told passes (Ok r) ≡ in_range good (passes ok)
+tests good r ok e h = tells passes good r (passes ok) e (ap passes h)
 
 -- ---- the refusal, where it is not
-pub refuses : (good : Bool) (z : ℤ) → good ≡ false → told_amount amount.OutOfRange ≡ in_range good z
-unfolding told_amount
-refuses good z e = rw e
+pub refuses : {A : Type 0} (f : A → ℤ) (e : OutOfRange) (good : Bool) (z : ℤ) → good ≡ false
+    → told f (Err e) ≡ in_range good z
+unfolding told
+refuses f e good z h = rw h
 
-pub refuses_count : (good : Bool) (z : ℤ) → good ≡ false
-    → told_count count.OutOfRange ≡ in_range good z
-unfolding told_count
-refuses_count good z e = rw e
+-- ---- for a caller: a step whose input is in range has a value, and which value that is
+pub has_value : {A : Type 0} (f : A → ℤ) (r : Result A OutOfRange) (good : Bool) (z : ℤ)
+    → told f r ≡ in_range good z → good ≡ true → IsOk r
+unfolding told
+has_value f (Ok x) good z e h = search rules
+has_value f (Err _) good z e h =
+    absurd (omega (arith, ap (λ (t : ToldStep). t.number) (e ∙ ap (λ (b : Bool). in_range b z) h)))
 
-pub refuses_verdict : (good : Bool) (z : ℤ) → good ≡ false
-    → told_verdict verdict.OutOfRange ≡ in_range good z
-unfolding told_verdict
-refuses_verdict good z e = rw e
+pub value_told : {A : Type 0} (f : A → ℤ) (r : Result A OutOfRange) (x : A) (good : Bool) (z : ℤ)
+    → told f r ≡ in_range good z → good ≡ true → r ≡ Ok x → f x ≡ z
+unfolding told
+value_told f r x good z e h i =
+    ap (λ (t : ToldStep). t.value) (sym (ap (told f) i) ∙ e ∙ ap (λ (b : Bool). in_range b z) h)
 
--- ---- for a caller: the value of a step whose input is in range
 pub value_given : (t : ToldStep) (good : Bool) (z : ℤ) → t ≡ in_range good z → good ≡ true
     → t.value ≡ z
 value_given t good z e h =
@@ -107,13 +102,10 @@ pub size_no : (n k : ℕ) (z : ℤ) → n ≡ nat_abs z → k < n → leb (nat_a
 size_no n k z e h = rw (← e) (lt-leb n k h)
 
 pub ruleset ranges = (
-  tells,
   counts,
-  passing,
-  failing,
+  tests,
+  tells,
   refuses,
-  refuses_count,
-  refuses_verdict,
   both,
   not_first,
   not_second,

@@ -1,14 +1,10 @@
 -- docs/RULES.md, "Nine refusals": "A refusal returns number and place, every other number zero";
 -- "On acceptance number and place are zero". An answer is told as these numbers, and every promise
 -- is an equation of what is told.
-use Rattle.std.specs.Prelude.{Bool, cond, ◌&&◌, ℕ, leb, ℤ, pos}
+use Rattle.std.specs.Prelude.{Bool, cond, ◌&&◌, ℕ, leb, ℤ, pos, Result, Ok, Err}
+use Rattle.whole.specs.declared.Whole.{Whole}
 use Rattle.answer.specs.Refusal.{out_of_range}
-use Rattle.answer.specs.declared.Amount.{Amount}
-use Rattle.answer.specs.declared.Amount.TheVariants as amount
-use Rattle.answer.specs.declared.Count.{Count}
-use Rattle.answer.specs.declared.Count.TheVariants as count
-use Rattle.answer.specs.declared.Verdict.{Verdict}
-use Rattle.answer.specs.declared.Verdict.TheVariants as verdict
+use Rattle.answer.specs.declared.OutOfRange.{OutOfRange}
 
 pub record ToldStep : Type 0 where
   pub number : ℕ
@@ -33,16 +29,17 @@ inside low high x = leb low x && leb x high
 abbrev pub passes : Bool → ℤ
 passes good = cond good (pos 1) (pos 0)
 
--- ---- what each case of an answer tells
-unfoldable pub told_amount : Amount → ToldStep
-told_amount (amount.Is z) = given z.v
-told_amount amount.OutOfRange = refused out_of_range 0
+-- ---- what each case of an answer tells, where f is the number of a value
+unfoldable pub told : {A : Type 0} → (A → ℤ) → Result A OutOfRange → ToldStep
+told f (Ok x) = given (f x)
+told f (Err _) = refused out_of_range 0
 
-unfoldable pub told_count : Count → ToldStep
-told_count (count.Is n) = given (pos n)
-told_count count.OutOfRange = refused out_of_range 0
+-- an amount with a sign, a value that is never negative, and a test
+abbrev pub told_amount : Result Whole OutOfRange → ToldStep
+told_amount = told (λ z. z.v)
 
-unfoldable pub told_verdict : Verdict → ToldStep
-told_verdict verdict.Passes = given (pos 1)
-told_verdict verdict.Fails = given (pos 0)
-told_verdict verdict.OutOfRange = refused out_of_range 0
+abbrev pub told_count : Result ℕ OutOfRange → ToldStep
+told_count = told pos
+
+abbrev pub told_verdict : Result Bool OutOfRange → ToldStep
+told_verdict = told passes

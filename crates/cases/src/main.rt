@@ -15,6 +15,8 @@ mod traverses;
 use std::io::{self, Read, Write};
 
 // One case of the bundle; false at its end, and where the letter says no subject.
+// Kept: each arm is another subject, as in `calls`. Reader and writer stand by themselves: a struct
+// of both would carry both their types into every function.
 fn one_case(from: &mut impl Read, to: &mut impl Write) -> io::Result<bool> {
     match input::read_u8(from)? {
         b'T' => reading::answer(from, to)?,

@@ -12,7 +12,9 @@ use Rattle.minutes.specs.Entry.{entry}
 use Rattle.steps.specs.Course.{Axis}
 use Rattle.tape.specs.Fields.{fields_of}
 use Rattle.steps.proofs.Laws.{product_most}
-use Rattle.desk.specs.declared.Answer.{Answer}
+use Rattle.std.specs.Prelude.{Result}
+use Rattle.answer.specs.declared.Refused.{Refused}
+use Rattle.desk.specs.declared.Figures.{Figures}
 use Rattle.desk.specs.Angles.{Balanced, balanced_traverse}
 use Rattle.desk.specs.Answer.{ToldTraverse, told_traverse, traversed, traversed_words}
 use Rattle.desk.specs.Inside.{Sound}
@@ -59,7 +61,7 @@ module _ (b : Balanced) (sound : Sound b) (axis : Axis) (k : ℕ) (h : k ≤ b.l
       }
 
 -- ---- x and l are what the promise of `traverse` allows for the tape and the lent words
-module _ (tape : List ℕ) (words l : List ℤ) (x : Answer)
+module _ (tape : List ℕ) (words l : List ℤ) (x : Result Figures Refused)
     (e : told_traverse x ≡ traversed tape (length words)) (f : l ≡ traversed_words tape words)
     (accepts : (told_traverse x).number ≡ 0) where
   abbrev b : Balanced

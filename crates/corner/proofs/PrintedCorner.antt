@@ -16,7 +16,8 @@ use Rattle.tape.specs.Fields.{fields_of}
 use Rattle.text.specs.Read.{amount_read}
 use Rattle.text.specs.Text.{plain}
 use Rattle.text.proofs.ReadBack.{plain_back}
-use Rattle.desk.specs.declared.Page.{Page}
+use Rattle.std.specs.Prelude.{Result}
+use Rattle.answer.specs.declared.Refused.{Refused}
 use Rattle.desk.specs.Angles.{Balanced, balanced_traverse}
 use Rattle.desk.specs.Sheet.{foot_decimals, station_line, line_of, text_of, own_words, answered}
 use Rattle.desk.specs.Sheet.{sheet_words, told_sheet, Showed, over, printed_of, printed, printed_in}
@@ -95,7 +96,7 @@ module _ (tape : List ℕ) (number : (answered entry tape).number ≡ 0) where
       }
 
 -- ---- r and left are what the promise of `sheet` allows for the tape and the lent bytes
-module _ (tape out left : List ℕ) (r : Page) (s : Showed entry tape out left r)
+module _ (tape out left : List ℕ) (r : Result ℕ Refused) (s : Showed entry tape out left r)
     (accepts : (told_sheet r).number ≡ 0) (k : ℕ) (h : k ≤ (traverse_of tape).legs) where
   in_text : PrintedWithin tape (text_of (answered entry tape) (sheet_words entry tape)) k
   in_text = text_corner tape (showed_accepts entry tape out left r s accepts) k h

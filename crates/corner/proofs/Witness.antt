@@ -10,8 +10,9 @@ use Rattle.minutes.specs.Entry.{entry}
 use Rattle.steps.specs.Course.{Axis, north, east}
 use Rattle.tape.specs.Fields.{fields_of}
 use Rattle.tape.specs.Tape.{tape_of}
-use Rattle.desk.specs.declared.Answer.{Answer}
-use Rattle.desk.specs.declared.Answer.TheVariants.{Adjusted}
+use Rattle.std.specs.Prelude.{Result, Ok}
+use Rattle.answer.specs.declared.Refused.{Refused}
+use Rattle.desk.specs.declared.Figures.{Figures}
 use Rattle.desk.specs.Angles.{Balanced, balanced_traverse}
 use Rattle.desk.specs.Answer.{ToldTraverse}
 use Rattle.desk.specs.Traverse.{word_index}
@@ -24,9 +25,9 @@ abbrev yard : Balanced
 yard = balanced_traverse (fields_of (tape_of records))
 
 -- what `traverse` answers of the printed tape
-abbrev adjusted : Answer
+abbrev adjusted : Result Figures Refused
 adjusted =
-    Adjusted (record {
+    Ok (record {
       legs = answer.legs;
       w = record { v = answer.w };
       north_closure = record { v = answer.north_closure };

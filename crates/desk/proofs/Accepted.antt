@@ -15,14 +15,14 @@ use Rattle.sines.proofs.Own.{Entries}
 use Rattle.steps.specs.Azimuth.{half_circle, closes_angles}
 use Rattle.steps.specs.Course.{Axis, north, east}
 use Rattle.steps.proofs.Rooting.{precision_most}
-use Rattle.tape.specs.declared.Reading.{Reading}
-use Rattle.tape.specs.declared.Reading.TheVariants as reading
+use Rattle.std.specs.Prelude.{Result, Ok, Err}
+use Rattle.answer.specs.declared.Refused.{Refused}
+use Rattle.tape.specs.declared.State.{State}
 use Rattle.tape.specs.Tape.{reading_of}
 use Rattle.tape.specs.Fields.{fields_of, DoesRead}
 use Rattle.whole.proofs.Branch.{by_test}
-use Rattle.tape.proofs.Refusals.{reading_number}
 use Rattle.desk.specs.Angles.{misclosure_of, Balanced, balanced_traverse}
-use Rattle.desk.specs.Answer.{ToldTraverse, First, first_if, first_of, checked_angles}
+use Rattle.desk.specs.Answer.{ToldTraverse, first_if, first_of, checked_angles}
 use Rattle.desk.specs.Answer.{north_closure, east_closure, distance_run, closes_on}
 use Rattle.desk.specs.Answer.{adjusted_traverse, adjusted_words, after_first, first_for}
 use Rattle.desk.specs.Answer.{traversed_by, traversed_words_by}
@@ -32,6 +32,7 @@ use Rattle.desk.specs.Line.{closure, share_at, adjusted}
 use Rattle.desk.specs.Traverse.{along, line, word_index, with_stations}
 use Rattle.desk.proofs.Balancing.{misclosure_most, sound_of}
 use Rattle.desk.proofs.Compass.{legs_add_up}
+use Rattle.desk.proofs.Numbers.{number_in}
 use Rattle.desk.proofs.Settling.{far_run, run_small, closes_near}
 use Rattle.desk.proofs.Stations.{place_small, area_most}
 use Rattle.desk.proofs.Stepping.{tape_ready}
@@ -61,7 +62,7 @@ module _ (e : ℕ → ℤ) (tape : List ℕ) (room : ℕ) where
   abbrev Shown : ToldTraverse → Type 0
   Shown t = t.number ≡ 0 → Accepted e tape room
 
-  abbrev ShownAfter : First → Type 0
+  abbrev ShownAfter : Result Balanced Refused → Type 0
   ShownAfter x = Shown (after_first e x)
 
   pub accepted : Shown (traversed_by e tape room)
@@ -69,10 +70,10 @@ module _ (e : ℕ → ℤ) (tape : List ℕ) (room : ℕ) where
   accepted = by_test ShownAfter (ltb room 130) (λ few z. absurd (omega arith))
       (λ wide. go (reading_of tape) refl (ltb-false room 130 wide))
     where
-      go : (r : Reading) → reading_of tape ≡ r → 130 ≤ room
+      go : (r : Result State Refused) → reading_of tape ≡ r → 130 ≤ room
           → ShownAfter (first_if r (fields_of tape))
-      go (reading.Refused n p) h wide = λ z. absurd (omega (arith, (reading_number tape n p h).0))
-      go (reading.Reads st) h wide =
+      go (Err r) h wide = λ z. absurd (omega (arith, number_in r.refusal))
+      go (Ok st) h wide =
           by_test ShownAfter (closes_angles (misclosure_of (fields_of tape))
           (fields_of tape).line.legs)
           (λ a.
@@ -90,17 +91,17 @@ module _ (e : ℕ → ℤ) (tape : List ℕ) (room : ℕ) where
   abbrev Nine : ToldTraverse → Type 0
   Nine t = t.number ≤ 9
 
-  abbrev NineAfter : First → Type 0
+  abbrev NineAfter : Result Balanced Refused → Type 0
   NineAfter x = Nine (after_first e x)
 
   pub number_most : Nine (traversed_by e tape room)
   unfolding traversed_by first_for first_of checked_angles adjusted_traverse
   number_most = by_test NineAfter (ltb room 130) (λ few. omega arith)
-      (λ wide. go (reading_of tape) refl)
+      (λ wide. go (reading_of tape))
     where
-      go : (r : Reading) → reading_of tape ≡ r → NineAfter (first_if r (fields_of tape))
-      go (reading.Refused n p) h = omega (arith, (reading_number tape n p h).1)
-      go (reading.Reads st) h =
+      go : (r : Result State Refused) → NineAfter (first_if r (fields_of tape))
+      go (Err r) = omega (arith, number_in r.refusal)
+      go (Ok st) =
           by_test NineAfter (closes_angles (misclosure_of (fields_of tape))
           (fields_of tape).line.legs)
           (λ a. by_test Nine (closes_on e (balanced_tape tape)) (λ c. omega arith)

@@ -12,7 +12,10 @@ use lib.IntN.{ℤ}
 use Rattle.steps.specs.Azimuth.{closes_angles}
 use Rattle.tape.specs.Fields.{Fields, fields_of, DoesRead}
 use Rattle.desk.specs.Angles.{misclosure_of, Balanced, balanced_traverse}
-use Rattle.desk.specs.Answer.{stopped, good, checked_angles, first_of, closes_on}
+use Rattle.std.specs.Prelude.{Ok}
+use Rattle.answer.specs.declared.Refusal.TheVariants.{NoRoom, BadAngles}
+use Rattle.tape.specs.Tape.{refused_at}
+use Rattle.desk.specs.Answer.{checked_angles, first_of, closes_on}
 use Rattle.desk.specs.Answer.{adjusted_traverse, adjusted_words, first_for, traversed_by}
 use Rattle.desk.specs.Answer.{words_after_first, traversed_words_by}
 use Rattle.desk.specs.Traverse.{with_stations, offsets_to, area_of}
@@ -109,7 +112,7 @@ module _ (e : ℕ → ℤ) (f : Fields) where
   words_from_lem words = go (closes_angles (misclosure_of f) f.line.legs)
     where
       go : (x : Bool) → words_after_first e
-          (cond x (good b) (stopped 8 f.closing.place)) words ≡ cond x
+          (cond x (Ok b) (refused_at BadAngles f.closing.place)) words ≡ cond x
           (adjusted_words e b words) words
       go true = refl
       go false = refl
@@ -152,8 +155,8 @@ module _ (e : ℕ → ℤ) (s t : List ℕ) (a : DoesRead s) (b : DoesRead t)
     where
       -- with too few words, and with enough
       go : (x : Bool) → words_after_first e
-          (cond x (stopped 1 0) (first_of s)) words ≡ words_after_first e
-          (cond x (stopped 1 0) (first_of t)) words
+          (cond x (refused_at NoRoom 0) (first_of s)) words ≡ words_after_first e
+          (cond x (refused_at NoRoom 0) (first_of t)) words
       go true = refl
       go false =
           let h = by_bare (λ u. words_from e u words) (rw (angles_bare f, words_bare e f words))

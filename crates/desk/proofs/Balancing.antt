@@ -5,18 +5,19 @@ use Prim.Native.Nat.{ℕ, ◌+◌, ◌-◌, ◌%◌, ◌≤◌, ◌<◌}
 use native.Mathlib.Omega.{arith}
 use native.Mathlib.Nat.{mod-lt}
 use mathlib.Core.Path.{◌≡◌, ◌∙◌, ap}
-use mathlib.Core.Bool.{Bool, true}
-use mathlib.Core.List.{List, [], ◌∷◌}
+use mathlib.Core.Bool.{Bool, true, ◌&&◌}
+use mathlib.Core.List.{List, [], ◌∷◌, ◌++◌}
 use borrow.Author.Tests.{le-leb, lt-ltb}
-use lib.ListN.{length, get_or, set, length-replicate}
+use lib.ListN.{length, get_or, set, take, drop, length-replicate}
 use lib.IntN.{ℤ, pos, nat_abs, neg_ℤ}
 use Rattle.whole.specs.Order.{◌≤ᶻ◌, ◌<ᶻ◌}
 use Rattle.whole.proofs.Diff.{vars, ints, abs_under, le, lt}
-use Rattle.answer.specs.declared.Amount.{Amount}
-use Rattle.answer.specs.declared.Count.{Count}
-use Rattle.answer.specs.declared.Verdict.{Verdict}
+use lib.Dec.{leb, ltb}
+use Rattle.std.specs.Prelude.{Result, Ok, IsOk}
+use Rattle.answer.specs.declared.OutOfRange.{OutOfRange}
+use Rattle.whole.specs.declared.Whole.{Whole}
 use Rattle.answer.specs.Told.{told_amount, told_count, told_verdict, inside, passes}
-use Rattle.answer.proofs.Telling.{value_given, verdict_given, both, inside_yes}
+use Rattle.answer.proofs.Telling.{has_value, value_told, one_flag, both, inside_yes}
 use Rattle.minutes.specs.Quadrant.{circle}
 use Rattle.steps.specs.Azimuth.{half_circle, misclosure, closes_angles, balanced, of_angles}
 use Rattle.steps.specs.Azimuth.{misclosure_step, misclosure_test, balanced_step}
@@ -26,21 +27,30 @@ use Rattle.steps.proofs.Turning.{misclosure_is}
 use Rattle.desk.specs.Angles.{distance_at, turns_of, misclosure_of, zeros, balanced_traverse}
 use Rattle.desk.specs.Traverse.{azimuth_of}
 use Rattle.desk.specs.Turns.{balanced_at}
-use Rattle.desk.specs.Inside.{Ready, Sound, AllTurned, balanced_by, balanced_in}
+use Rattle.desk.specs.Inside.{Ready, Sound, no_leg, leg_at, AllTurned, balanced_leg, balanced_in}
+use Rattle.desk.specs.declared.Leg.{Leg}
 use Rattle.tape.specs.Fields.{Fields}
-use Rattle.whole.proofs.Filling.{filled_length, filled_at, filled_after, filled_on}
+use Rattle.std.proofs.lemmas.List.{get_or-take, length-take-le}
+use Rattle.whole.specs.Filled.{filled}
+use Rattle.whole.proofs.Filling.{filled_at, filled_after, filled_on, filled_whole}
 use Rattle.desk.proofs.Scaling.{combined_range}
 use Rattle.desk.proofs.Turning.{balanced_most, balanced_at_turned, filled_balanced_at}
 
 -- ---- an azimuth from two angles
-module _ (r : Count) (n a b x : ℕ) (e : told_count r ≡ of_angles a b (pos (x % circle)))
-    (f : pos n ≡ (told_count r).value) (h : a < circle) (i : b < circle) where
-  pub azimuth_is : n ≡ x % circle
-  azimuth_is = ap nat_abs
-      (f ∙ value_given (told_count r) _ _ e (both _ _ (lt-ltb a circle h) (lt-ltb b circle i)))
+module _ (r : Result ℕ OutOfRange) (a b x : ℕ) (e : told_count r ≡ of_angles a b (pos (x % circle)))
+    (h : a < circle) (i : b < circle) where
+  both_turned : (ltb a circle && ltb b circle) ≡ true
+  both_turned = both _ _ (lt-ltb a circle h) (lt-ltb b circle i)
 
-  pub azimuth_turned : n < circle
-  azimuth_turned = rw azimuth_is (mod-lt x (omega arith))
+  pub azimuth_there : IsOk r
+  azimuth_there = has_value pos r _ _ e both_turned
+
+  module _ (n : ℕ) (f : r ≡ Ok n) where
+    pub azimuth_is : n ≡ x % circle
+    azimuth_is = ap nat_abs (value_told pos r n _ _ e both_turned f)
+
+    pub azimuth_turned : n < circle
+    azimuth_turned = rw azimuth_is (mod-lt x (omega arith))
 
 -- ---- the misclosure
 pub misclosure_most : (carried given : ℕ) → nat_abs (misclosure carried given) ≤ half_circle
@@ -51,70 +61,98 @@ misclosure_most carried given = let m = misclosure_is carried given in
     sized w a b = let v = vars (w ∷ []) in
         abs_under w (search ints) (omega (arith, lt a (search ints), le b (search ints)))
 
-pub angles_close : (r : Verdict) (x : Bool) (w : ℤ) (n : ℕ) → told_verdict r ≡ misclosure_test w n
-    → passes x ≡ (told_verdict r).value → nat_abs w ≤ 6480000 → 1 ≤ n → n ≤ 64
-    → x ≡ closes_angles w n
-angles_close r x w n t f small low high =
-    verdict_given (told_verdict r) _ x (closes_angles w n) t
-    (both _ _ (le-leb (nat_abs w) 6480000 small) (inside_yes 1 64 n low high)) f
+module _ (r : Result Bool OutOfRange) (w : ℤ) (n : ℕ) (e : told_verdict r ≡ misclosure_test w n)
+    (small : nat_abs w ≤ 6480000) (low : 1 ≤ n) (high : n ≤ 64) where
+  tested : (leb (nat_abs w) 6480000 && inside 1 64 n) ≡ true
+  tested = both _ _ (le-leb (nat_abs w) 6480000 small) (inside_yes 1 64 n low high)
+
+  pub verdict_there : IsOk r
+  verdict_there = has_value passes r _ _ e tested
+
+  pub angles_close : (x : Bool) → r ≡ Ok x → x ≡ closes_angles w n
+  angles_close x f = one_flag x _ (value_told passes r x _ _ e tested f)
 
 -- ---- the balanced azimuth of a leg
-module _ (p : Amount) (r : Count) (n azimuth j angles : ℕ) (s w : ℤ)
-    (f : pos n ≡ (told_count r).value) (e : told_count r ≡ balanced_step azimuth s)
-    (i : s ≡ (told_amount p).value) (g : told_amount p ≡ angle_share_step w j (angles - 1))
-    (turned : azimuth < circle) (small : nat_abs w ≤ 6480000)
+module _ (p : Result Whole OutOfRange) (w : ℤ) (j angles : ℕ)
+    (g : told_amount p ≡ angle_share_step w j (angles - 1)) (small : nat_abs w ≤ 6480000)
     (reach : j ≤ angles) (some : 2 ≤ angles) (few : angles ≤ 65) where
-  one_more : angles - 1 + 1 ≡ angles
-  one_more = omega arith
+  shared : (leb (nat_abs w) 6480000 && inside 1 64 (angles - 1) && leb j (angles - 1 + 1)) ≡ true
+  shared =
+      both _ _ (both _ _ (le-leb (nat_abs w) 6480000 small)
+      (inside_yes 1 64 (angles - 1) (omega arith) (omega arith)))
+      (le-leb j (angles - 1 + 1) (omega arith))
 
-  in_range_lem : inside 1 64 (angles - 1) ≡ true
-  in_range_lem = inside_yes 1 64 (angles - 1) (omega arith) (omega arith)
+  pub part_there : IsOk p
+  part_there = has_value (λ z. z.v) p _ _ g shared
 
-  part_is : s ≡ share w j angles
-  part_is =
-      i ∙ value_given (told_amount p) _ _ g
-      (both _ _ (both _ _ (le-leb (nat_abs w) 6480000 small) in_range_lem)
-      (le-leb j (angles - 1 + 1) (omega arith)))
-      ∙ ap (share w j) one_more
+  module _ (s : Whole) (i : p ≡ Ok s) where
+    part_is : s.v ≡ share w j angles
+    part_is =
+        let one_more : angles - 1 + 1 ≡ angles = omega arith in
+        value_told (λ z. z.v) p s _ _ g shared i ∙ ap (share w j) one_more
 
-  part_small : nat_abs s ≤ 6480000
-  part_small = rw part_is (omega (arith, share_most w angles (omega arith) j reach))
+    part_small : nat_abs s.v ≤ 6480000
+    part_small = rw part_is (omega (arith, share_most w angles (omega arith) j reach))
 
-  pub balanced_is : n ≡ balanced azimuth (share w j angles)
-  balanced_is =
-      ap nat_abs (f ∙ value_given (told_count r) _ _ e
-      (both _ _ (lt-ltb azimuth circle turned) (le-leb (nat_abs s) 6480000 part_small)))
-      ∙ ap (balanced azimuth) part_is
+    module _ (r : Result ℕ OutOfRange) (azimuth : ℕ) (e : told_count r ≡ balanced_step azimuth s.v)
+        (turned : azimuth < circle) where
+      in_range_lem : (ltb azimuth circle && leb (nat_abs s.v) 6480000) ≡ true
+      in_range_lem = both _ _ (lt-ltb azimuth circle turned)
+          (le-leb (nat_abs s.v) 6480000 part_small)
 
-  pub balanced_turned : n < circle
-  balanced_turned = rw balanced_is (balanced_most azimuth (share w j angles))
+      pub balanced_there : IsOk r
+      balanced_there = has_value pos r _ _ e in_range_lem
 
--- ---- in the place of each azimuth the balanced one
-module _ (w : ℤ) (legs ahead angles k : ℕ) (l m : List ℕ) (h : k < legs) (t : AllTurned legs l)
-    (e : m ≡ balanced_in w ahead angles k l) where
-  pub balancing_room : k < length m
-  balancing_room = rw e (omega (arith, filled_length (balanced_by w ahead angles l) l k, t.room))
+      module _ (n : ℕ) (f : r ≡ Ok n) where
+        pub balanced_is : n ≡ balanced azimuth (share w j angles)
+        balanced_is =
+            ap nat_abs (value_told pos r n _ _ e in_range_lem f) ∙ ap (balanced azimuth) part_is
 
-  unbalanced_yet : get_or m k 0 ≡ get_or l k 0
-  unbalanced_yet = rw e (filled_after (balanced_by w ahead angles l) l k k (omega arith))
+        pub balanced_turned : n < circle
+        balanced_turned = rw balanced_is (balanced_most azimuth (share w j angles))
 
-  pub balancing_turned : get_or m k 0 < 12960000
-  balancing_turned = rw unbalanced_yet (t.each k h)
+-- ---- in the place of each of the first n legs the balanced one
+module _ (w : ℤ) (n ahead angles k : ℕ) (l m : List Leg) (t : AllTurned n l)
+    (e : m ≡ filled (balanced_leg w ahead angles l) k (take n l)) where
+  module _ (h : k < length (take n l)) where
+    unbalanced_yet : leg_at m k ≡ leg_at l k
+    unbalanced_yet =
+        let low : k < n = omega (arith, length-take-le n l t.room) in
+        rw e (filled_after (balanced_leg w ahead angles l) (take n l) no_leg k k (omega arith))
+        ∙ get_or-take n l k no_leg low
 
-  pub balancing_next : (r : ℕ) → r ≡ balanced (get_or m k 0) (share w (k + ahead) angles)
-      → set m k r ≡ balanced_in w ahead angles (k + 1) l
-  balancing_next r g = filled_on (balanced_by w ahead angles l) l k r m e (g ∙ rw unbalanced_yet)
+    pub balancing_turned : (leg_at m k).azimuth < 12960000
+    balancing_turned =
+        rw unbalanced_yet (t.each k (omega (arith, length-take-le n l t.room)))
+
+    pub balancing_next : (r : ℕ) → r ≡ balanced (leg_at m k).azimuth (share w (k + ahead) angles)
+        → set m k (record { azimuth = r; distance = (leg_at m k).distance })
+        ≡ filled (balanced_leg w ahead angles l) (k + 1) (take n l)
+    balancing_next r g =
+        filled_on (balanced_leg w ahead angles l) (take n l) k _ m e (rw (g, unbalanced_yet))
+
+  pub balancing_last : k ≤ length (take n l) → length (take n l) ≤ k
+      → m ++ drop n l ≡ balanced_in w ahead angles n l
+  balancing_last h i =
+      let f : k ≡ n = omega (arith, length-take-le n l t.room) in
+      filled_whole (balanced_leg w ahead angles l) l m n t.room (rw f at e)
 
 -- ---- the misclosure
-module _ (r : Amount) (v : ℤ) (closing given : ℕ) (g : v ≡ (told_amount r).value)
-    (e : told_amount r ≡ misclosure_step closing given) (h : closing < circle)
-    (i : given < circle) where
-  pub misclosure_value : v ≡ misclosure closing given
-  misclosure_value = g ∙ value_given (told_amount r) _ _ e
-      (both _ _ (lt-ltb closing circle h) (lt-ltb given circle i))
+module _ (r : Result Whole OutOfRange) (closing given : ℕ)
+    (e : told_amount r ≡ misclosure_step closing given) (h : closing < circle) (i : given < circle)
+  where
+    within : (ltb closing circle && ltb given circle) ≡ true
+    within = both _ _ (lt-ltb closing circle h) (lt-ltb given circle i)
 
-  pub misclosure_small : nat_abs v ≤ 6480000
-  misclosure_small = rw misclosure_value (misclosure_most closing given)
+    pub misclosure_there : IsOk r
+    misclosure_there = has_value (λ z. z.v) r _ _ e within
+
+    module _ (w : Whole) (f : r ≡ Ok w) where
+      pub misclosure_value : w.v ≡ misclosure closing given
+      misclosure_value = value_told (λ z. z.v) r w _ _ e within f
+
+      pub misclosure_small : nat_abs w.v ≤ 6480000
+      misclosure_small = rw misclosure_value (misclosure_most closing given)
 
 -- ---- the traverse with its angles balanced
 module _ (f : Fields) where
@@ -131,7 +169,7 @@ module _ (f : Fields) where
       → get_or (balanced_traverse f).distances k 0 ≡ distance_at f k
   unfolding balanced_traverse
   leg_measured k h few =
-      filled_at (distance_at f) zeros f.line.legs k
+      filled_at (distance_at f) zeros 0 f.line.legs k
       (omega (arith, length-replicate {A = ℕ} 64 0)) h
 
   pub sound_of : Ready f → Sound (balanced_traverse f)

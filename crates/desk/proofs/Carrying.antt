@@ -4,10 +4,10 @@
 use Prim.Native.Nat.{ℕ, ◌+◌, ◌≤◌, ◌<◌}
 use native.Mathlib.Omega.{arith}
 use native.Mathlib.Nat.{mod-lt}
-use mathlib.Core.Path.{◌≡◌, ◌∙◌, ap, subst}
+use mathlib.Core.Path.{◌≡◌, ◌∙◌, ap}
 use mathlib.Core.Bool.{Bool, true, false}
-use mathlib.Core.List.{List}
-use lib.ListN.{length, set, length-replicate}
+use mathlib.Core.List.{List, ◌++◌}
+use lib.ListN.{length, set, take, drop, length-replicate}
 use lib.IntN.{ℤ}
 use Rattle.whole.specs.declared.Whole.{Whole}
 use Rattle.minutes.specs.Quadrant.{circle}
@@ -16,16 +16,23 @@ use Rattle.tape.specs.Fields.{Fields, fields_of}
 use Rattle.whole.specs.Filled.{filled}
 use Rattle.desk.specs.Angles.{angle_at, distance_at, turns_of, misclosure_of, zeros}
 use Rattle.desk.specs.Angles.{balanced_traverse}
-use Rattle.desk.specs.Answer.{stopped, good, checked_angles}
+use Rattle.answer.specs.declared.Refusal.TheVariants.{BadAngles}
+use Rattle.std.specs.Prelude.{Ok}
+use Rattle.tape.specs.Tape.{refused_at}
+use Rattle.desk.specs.Answer.{checked_angles}
 use Rattle.desk.specs.Inside.{Known, Ready, Scaled, AllTurned}
-use Rattle.desk.specs.Inside.{balanced_in, frame_of, with_legs}
+use Rattle.desk.specs.Inside.{no_leg, no_legs, leg_by, carried_leg, balanced_in, frame_of}
+use Rattle.desk.specs.Inside.{with_legs}
 use Rattle.desk.specs.Turns.{Turns, carried, balanced_at}
 use Rattle.tape.specs.declared.Control.{Control}
 use Rattle.desk.specs.declared.Frame.{Frame}
+use Rattle.desk.specs.declared.Leg.{Leg}
 use Rattle.tape.specs.Legs.{sight_at, LegAt}
 use Rattle.tape.specs.declared.Sight.{Sight}
-use Rattle.tape.proofs.Legs.{leg_first, leg_next, leg_angle, leg_distance}
-use Rattle.whole.proofs.Filling.{filled_on, filled_last}
+use Rattle.tape.proofs.Legs.{leg_first, leg_next as leg_after, leg_angle, leg_distance}
+use Rattle.std.specs.Prelude.{map}
+use Rattle.std.proofs.lemmas.List.{length-take-le}
+use Rattle.whole.proofs.Filling.{filled_on, filled_whole, map_filled}
 use Rattle.desk.proofs.Stepping.{tape_ready}
 use Rattle.desk.proofs.Turning.{carried_on, carried_turned, filled_turned, filled_balanced}
 
@@ -57,9 +64,9 @@ module _ (tape : List ℕ) (c : Control) (known : Known tape c) where
   pub legs_few : c.legs ≤ 64
   legs_few = rw legs_is ready.few
 
-  -- the lists have a place for every leg
-  pub legs_room : (z : List ℕ) → z ≡ zeros → c.legs ≤ length z
-  legs_room z e = omega (arith, legs_few, ap length e, length-replicate {A = ℕ} 64 0)
+  -- the list has a place for every leg
+  legs_over : (z : List Leg) → length z ≡ 64 → length (take c.legs z) ≡ c.legs
+  legs_over z room = length-take-le c.legs z (omega (arith, legs_few))
 
   pub scaled : Scaled c
   scaled =
@@ -91,9 +98,9 @@ module _ (tape : List ℕ) (c : Control) (known : Known tape c) where
     sight_turned : k ≤ c.legs → s.angle < circle
     sight_turned low = rw angle_at_lem (ready.angles k (omega (arith, legs_is)))
 
-    module _ (low : k < c.legs) where
+    module _ (z : List Leg) (room : length z ≡ 64) (low : k < length (take c.legs z)) where
       under : k < f.line.legs
-      under = omega (arith, legs_is)
+      under = omega (arith, legs_is, legs_over z room)
 
       pub next_sight : (u : Sight) → u ≡ sight_at tape s.next → Sighted tape (k + 1) u
       next_sight u e =
@@ -102,38 +109,54 @@ module _ (tape : List ℕ) (c : Control) (known : Known tape c) where
             is = e;
             stands =
                 rw (ap (λ (x : Sight). x.next) h.is)
-                (leg_next tape known.reads k h.at h.stands under);
+                (leg_after tape known.reads k h.at h.stands under);
           }
+
+      distance_is : s.distance ≡ distance_at f k
+      distance_is =
+          ap (λ (x : Sight). x.distance) h.is ∙ leg_distance tape known.reads k h.at h.stands under
 
       pub distance_next : (l m : List ℕ) → l ≡ filled (distance_at f) k m
           → set l k s.distance ≡ filled (distance_at f) (k + 1) m
-      distance_next l m i =
-          filled_on (distance_at f) m k s.distance l i
-          (ap (λ (x : Sight). x.distance) h.is ∙ leg_distance tape known.reads k h.at
-          h.stands under)
+      distance_next l m i = filled_on (distance_at f) m k s.distance l i distance_is
 
+      pub leg_next : (a : ℕ) (l m : List Leg) → l ≡ filled (carried_leg f) k m → a ≡ carried t k
+          → set l k (record { azimuth = a; distance = s.distance })
+          ≡ filled (carried_leg f) (k + 1) m
+      leg_next a l m i j = filled_on (carried_leg f) m k _ l i (rw (j, distance_is))
+
+  -- ---- from leg k to the next
+  module _ (k : ℕ) (s u : Sight) (h : Sighted tape k s) (z : List Leg) (room : length z ≡ 64)
+      (low : k < length (take c.legs z)) (e : u ≡ sight_at tape s.next) where
+    next : Sighted tape (k + 1) u
+    next = next_sight k s h z room low u e
+
+    pub next_turned : u.angle < circle
+    next_turned = sight_turned (k + 1) u next (omega (arith, legs_over z room))
+
+    pub carried_next : (a r : ℕ) → r ≡ onward a u.angle → a ≡ carried t k → r ≡ carried t (k + 1)
+    carried_next a r i j = i ∙ rw (j, angle_at_lem (k + 1) u next) (carried_on t k)
+
+  -- ---- at the first leg
   pub first_turned : (s : Sight) → s ≡ sight_at tape c.line → s.angle < circle
   first_turned s e = sight_turned 0 s (first_sight s e) (omega arith)
-
-  pub next_turned : (k : ℕ) (s u : Sight) → Sighted tape k s → k < c.legs
-      → u ≡ sight_at tape s.next → u.angle < circle
-  next_turned k s u h low e = sight_turned (k + 1) u (next_sight k s h low u e) (omega arith)
 
   pub carried_first : (s : Sight) (r : ℕ) → s ≡ sight_at tape c.line
       → r ≡ from_mark c.mark s.angle → r ≡ carried t 0
   unfolding carried
   carried_first s r e i = i ∙ rw (angle_at_lem 0 s (first_sight s e), known.is)
 
-  pub carried_next : (k : ℕ) (s u : Sight) (a r : ℕ) → Sighted tape k s → k < c.legs
-      → u ≡ sight_at tape s.next → r ≡ onward a u.angle
-      → a ≡ carried t k → r ≡ carried t (k + 1)
-  carried_next k s u a r h low e i j =
-      i ∙ rw (j, angle_at_lem (k + 1) u (next_sight k s h low u e)) (carried_on t k)
+  -- ---- after the last leg
+  module _ (k : ℕ) (z : List Leg) (room : length z ≡ 64) (h : k ≤ length (take c.legs z))
+      (i : length (take c.legs z) ≤ k) where
+    at_end : k ≡ c.legs
+    at_end = omega (arith, legs_over z room)
 
-  pub carried_last : (k a : ℕ) → k ≤ c.legs → c.legs ≤ k → a ≡ carried t k
-      → a ≡ carried t c.legs
-  carried_last k a h i e =
-      let j : k ≡ c.legs = omega arith in subst (λ (n : ℕ). a ≡ carried t n) j e
+    pub legs_last : (m : List Leg) → z ≡ no_legs → m ≡ filled (carried_leg f) k (take c.legs z)
+        → m ++ drop c.legs z ≡ filled (carried_leg f) c.legs no_legs
+    legs_last m e g =
+        filled_whole (carried_leg f) z m c.legs (omega (arith, legs_few)) (rw at_end at g)
+        ∙ ap (filled (carried_leg f) c.legs) e
 
   leg_one_turned : t.first < circle
   leg_one_turned = mod-lt _ (omega arith)
@@ -141,35 +164,37 @@ module _ (tape : List ℕ) (c : Control) (known : Known tape c) where
   pub closing_turned : (a : ℕ) → a ≡ carried t c.legs → a < circle
   closing_turned a e = rw e (carried_turned t leg_one_turned c.legs)
 
-  -- ---- the lists
-  few : f.line.legs ≤ length zeros
-  few = omega (arith, length-replicate {A = ℕ} 64 0, ready.few)
+  -- ---- the legs in a list
+  few : f.line.legs ≤ length no_legs
+  few = omega (arith, length-replicate {A = Leg} 64 no_leg, ready.few)
 
-  module _ (l : List ℕ) (g : l ≡ filled (carried t) c.legs zeros) where
-    azimuths_carried : l ≡ filled (carried t) f.line.legs zeros
-    azimuths_carried = rw legs_is at g
+  module _ (l : List Leg) (g : l ≡ filled (carried_leg f) c.legs no_legs) where
+    legs_carried : l ≡ filled (carried_leg f) f.line.legs no_legs
+    legs_carried = rw legs_is at g
 
     pub all_turned : AllTurned c.legs l
     all_turned =
-        rw (legs_is, azimuths_carried) (filled_turned t f.line.legs zeros few leg_one_turned)
+        rw (legs_is, legs_carried)
+        (filled_turned t (distance_at f) f.line.legs no_legs few leg_one_turned)
 
-    azimuths_balanced : (w : ℤ) (m : List ℕ) → m ≡ balanced_in w 1 (c.legs + 1) c.legs l
-        → w ≡ misclosure_of f → m ≡ filled (balanced_at t (misclosure_of f)) f.line.legs zeros
-    azimuths_balanced w m i j =
-        rw (legs_is, azimuths_carried, j) at i
-        ∙ filled_balanced t f.line.legs zeros few (misclosure_of f)
+    legs_balanced : (w : ℤ) (m : List Leg) → m ≡ balanced_in w 1 (c.legs + 1) c.legs l
+        → w ≡ misclosure_of f
+        → m ≡ filled (leg_by (balanced_at t (misclosure_of f)) (distance_at f)) f.line.legs no_legs
+    legs_balanced w m i j =
+        rw (legs_is, legs_carried, j) at i
+        ∙ filled_balanced t (distance_at f) f.line.legs no_legs few (misclosure_of f)
 
-  pub azimuths_last : (k : ℕ) (z l : List ℕ) → k ≤ c.legs → c.legs ≤ k → z ≡ zeros
-      → l ≡ filled (carried t) k z → l ≡ filled (carried t) c.legs zeros
-  azimuths_last k z l h i e g = filled_last (carried t) zeros k c.legs l h i (rw e at g)
+  -- the azimuths of the legs, and their distances
+  module _ (g d : ℕ → ℕ) (n : ℕ) where
+    azimuths_of : map (λ (x : Leg). x.azimuth) (filled (leg_by g d) n no_legs) ≡ filled g n zeros
+    azimuths_of = map_filled (λ (x : Leg). x.azimuth) (leg_by g d) no_legs n
 
-  pub distances_last : (k : ℕ) (z l : List ℕ) → k ≤ c.legs → c.legs ≤ k → z ≡ zeros
-      → l ≡ filled (distance_at f) k z → l ≡ filled (distance_at f) c.legs zeros
-  distances_last k z l h i e g = filled_last (distance_at f) zeros k c.legs l h i (rw e at g)
+    distances_of : map (λ (x : Leg). x.distance) (filled (leg_by g d) n no_legs) ≡ filled d n zeros
+    distances_of = map_filled (λ (x : Leg). x.distance) (leg_by g d) no_legs n
 
   -- ---- the answer, by the test
   pub checked_fails : (x : Bool) → x ≡ closes_angles (misclosure_of f) f.line.legs
-      → x ≡ false → stopped 8 c.place ≡ checked_angles f
+      → x ≡ false → refused_at BadAngles c.place ≡ checked_angles f
   unfolding checked_angles
   checked_fails x tested h = rw (← tested, h, place_is)
 
@@ -179,23 +204,24 @@ module _ (tape : List ℕ) (c : Control) (known : Known tape c) where
     unfolding misclosure_of
     misclosure_known = i ∙ rw (j, known.is)
 
-    pub test_known : x ≡ closes_angles (misclosure_of f) f.line.legs
+    test_known : x ≡ closes_angles (misclosure_of f) f.line.legs
     test_known = rw (← misclosure_known, ← legs_is) tested
 
-    pub checked_good : (b : Frame) (l m d : List ℕ) → x ≡ true → b ≡ frame_of c (c.legs + 1) w
-        → l ≡ filled (carried t) c.legs zeros → m ≡ balanced_in w.v 1 (c.legs + 1) c.legs l
-        → d ≡ filled (distance_at f) c.legs zeros → good (with_legs b m d) ≡ checked_angles f
+    pub checked_good : (b : Frame) (l m : List Leg) → x ≡ true → b ≡ frame_of c (c.legs + 1) w
+        → l ≡ filled (carried_leg f) c.legs no_legs → m ≡ balanced_in w.v 1 (c.legs + 1) c.legs l
+        → Ok (with_legs b m) ≡ checked_angles f
     unfolding checked_angles balanced_traverse
-    checked_good b l m d h e g i j =
+    checked_good b l m h e g i =
         rw (
           ← test_known,
           h,
           e,
-          azimuths_balanced l g w.v m i misclosure_known,
-          j,
+          legs_balanced l g w.v m i misclosure_known,
+          azimuths_of (balanced_at t (misclosure_of f)) (distance_at f) f.line.legs,
+          distances_of (balanced_at t (misclosure_of f)) (distance_at f) f.line.legs,
           known.is,
           ← misclosure_known,
         )
 
-    pub checked_bad : x ≡ false → stopped 8 c.place ≡ checked_angles f
+    pub checked_bad : x ≡ false → refused_at BadAngles c.place ≡ checked_angles f
     checked_bad = checked_fails x test_known

@@ -5,6 +5,7 @@ pub mod Carrying
 pub mod Compass
 pub mod Enough
 pub mod Fitting
+pub mod Numbers
 pub mod OwnTable
 pub mod Paging
 pub mod Pairs

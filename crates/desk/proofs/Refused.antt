@@ -9,12 +9,11 @@ use lib.Dec.{ltb, eqb}
 use lib.ListN.{length}
 use lib.IntN.{ℤ}
 use Rattle.whole.proofs.Branch.{by_test}
-use Rattle.desk.specs.declared.Answer.{Answer}
-use Rattle.desk.specs.declared.Answer.TheVariants as answer
-use Rattle.desk.specs.declared.Page.{Page}
-use Rattle.desk.specs.declared.Page.TheVariants as page
+use Rattle.std.specs.Prelude.{Result, Ok, Err}
+use Rattle.answer.specs.declared.Refused.{Refused}
+use Rattle.desk.specs.declared.Figures.{Figures}
 use Rattle.desk.specs.Angles.{Balanced}
-use Rattle.desk.specs.Answer.{refused_traverse, told_traverse, First, stopped, good, first_for}
+use Rattle.desk.specs.Answer.{refused_traverse, told_traverse, first_for}
 use Rattle.desk.specs.Answer.{closes_on, adjusted_traverse}
 use Rattle.desk.specs.Answer.{adjusted_words, after_first, words_after_first}
 use Rattle.desk.specs.Answer.{traversed_by, traversed_words_by}
@@ -31,13 +30,13 @@ module _ (e : ℕ → ℤ) (words : List ℤ) where
       (λ c. absurd (some (rw c)))
       (λ c. refl)
 
-  first_kept : (x : First) → ((after_first e x).number ≡ 0 → ⊥)
+  first_kept : (x : Result Balanced Refused) → ((after_first e x).number ≡ 0 → ⊥)
       → words_after_first e x words ≡ words
-  first_kept (stopped n p) some = refl
-  first_kept (good b) some = second_kept b some
+  first_kept (Err r) some = refl
+  first_kept (Ok b) some = second_kept b some
 
 -- "A refusal .. writes nothing into lent memory"
-pub refused_words : (e : ℕ → ℤ) (tape : List ℕ) (words left : List ℤ) (x : Answer)
+pub refused_words : (e : ℕ → ℤ) (tape : List ℕ) (words left : List ℤ) (x : Result Figures Refused)
     → told_traverse x ≡ traversed_by e tape (length words) → left ≡ traversed_words_by e tape words
     → ((told_traverse x).number ≡ 0 → ⊥) → left ≡ words
 unfolding traversed_by traversed_words_by
@@ -45,14 +44,14 @@ refused_words e tape words left x h g some =
     rw g (first_kept e words (first_for tape (length words)) (rw h at some))
 
 -- "A refusal returns its number and its place, zeros otherwise", whatever was asked
-pub refused_zeros : (x : Answer) → ((told_traverse x).number ≡ 0 → ⊥)
+pub refused_zeros : (x : Result Figures Refused) → ((told_traverse x).number ≡ 0 → ⊥)
     → told_traverse x ≡ refused_traverse (told_traverse x).number (told_traverse x).place
-refused_zeros (answer.Refused n p) some = refl
-refused_zeros (answer.Adjusted f) some = absurd (some refl)
+refused_zeros (Err r) some = refl
+refused_zeros (Ok f) some = absurd (some refl)
 
 -- ---- the sheet: "lent memory is untouched", and the length told is zero
-pub refused_sheet : (e : ℕ → ℤ) (tape out left : List ℕ) (r : Page) → Showed e tape out left r
-    → ((told_sheet r).number ≡ 0 → ⊥) → left ≡ out
+pub refused_sheet : (e : ℕ → ℤ) (tape out left : List ℕ) (r : Result ℕ Refused)
+    → Showed e tape out left r → ((told_sheet r).number ≡ 0 → ⊥) → left ≡ out
 unfolding paged paged_bytes shown shown_bytes
 refused_sheet e tape out left r h some =
     let Kept : List ℕ → Type 0 = λ l. l ≡ out in
@@ -60,9 +59,10 @@ refused_sheet e tape out left r h some =
     (by_test Kept (ltb (length out) sheet_bytes)
     (λ few. refl)
     (λ room. by_test Kept (eqb (answered e tape).number 0)
-    (λ none. absurd (some (rw (h.answer, room, none))))
+    (λ none. absurd (some (rw (h.tells, room, none))))
     (λ other. refl)))
 
-pub refused_length : (r : Page) → ((told_sheet r).number ≡ 0 → ⊥) → (told_sheet r).used ≡ 0
-refused_length (page.Refused n p) some = refl
-refused_length (page.Text n) some = absurd (some refl)
+pub refused_length : (r : Result ℕ Refused) → ((told_sheet r).number ≡ 0 → ⊥)
+    → (told_sheet r).used ≡ 0
+refused_length (Err r) some = refl
+refused_length (Ok n) some = absurd (some refl)

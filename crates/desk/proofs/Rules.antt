@@ -14,7 +14,9 @@ use Rattle.steps.specs.Share.{share}
 use Rattle.steps.proofs.Rooting.{precision_is}
 use Rattle.steps.proofs.Turning.{turn_is, misclosure_is}
 use Rattle.tape.specs.Fields.{Fields, fields_of}
-use Rattle.desk.specs.declared.Answer.{Answer}
+use Rattle.std.specs.Prelude.{Result}
+use Rattle.answer.specs.declared.Refused.{Refused}
+use Rattle.desk.specs.declared.Figures.{Figures}
 use Rattle.desk.specs.Angles.{turns_of, misclosure_of, Balanced, balanced_traverse}
 use Rattle.desk.specs.Answer.{ToldTraverse, told_traverse, north_closure, east_closure}
 use Rattle.desk.specs.Answer.{distance_run, adjusted_traverse}
@@ -27,7 +29,7 @@ use Rattle.desk.proofs.Accepted.{accepted_sound}
 use Rattle.desk.proofs.Balancing.{leg_azimuth}
 use Rattle.desk.proofs.Settling.{run_small}
 
-module _ (e : ℕ → ℤ) (tape : List ℕ) (room : ℕ) (x : Answer)
+module _ (e : ℕ → ℤ) (tape : List ℕ) (room : ℕ) (x : Result Figures Refused)
     (tells : told_traverse x ≡ traversed_by e tape room)
     (accepts : (told_traverse x).number ≡ 0) where
   abbrev f : Fields

@@ -3,34 +3,39 @@
 use Prim.Native.Nat.{ℕ, zero, suc, ◌+◌, ◌*◌, ◌^◌, ◌≤◌, ◌<◌}
 use native.Mathlib.Omega.{arith}
 use native.Mathlib.Numerals.{add-one}
-use native.Mathlib.Decide.{ℕ_discrete}
 use mathlib.Core.Path.{◌≡◌, ◌∙◌, ap, subst}
+use mathlib.Core.Bool.{true, ◌&&◌}
 use mathlib.Core.List.{List, [], ◌∷◌}
-use lib.ListN.{length, get_or, set}
-use lib.Seq.{get_or-set_same, get_or-set_other}
+use lib.ListN.{length, get_or, set, take, get_or-map}
+use Rattle.std.proofs.lemmas.List.{get_or-take, length-take-le}
 use lib.IntN.{ℤ, pos, nat_abs, neg_ℤ, ◌+ℤ◌, ◌-ℤ◌, ◌*ℤ◌}
 use Rattle.whole.proofs.Laws.{abs_neg, abs_mul, near_most, triangle}
 use Rattle.whole.proofs.Ring.{ring, exps}
 use Rattle.whole.proofs.Rounding.{half_up_most, nearest_most}
-use Rattle.answer.specs.declared.Count.{Count}
-use Rattle.answer.specs.Told.{told_count}
-use Rattle.answer.proofs.Telling.{value_given, both, inside_yes}
+use Rattle.std.specs.Prelude.{Result, Ok, IsOk}
+use Rattle.answer.specs.declared.OutOfRange.{OutOfRange}
+use Rattle.answer.specs.Told.{told_count, inside}
+use Rattle.answer.proofs.Telling.{has_value, value_told, both, inside_yes}
 use Rattle.minutes.specs.Quadrant.{circle}
-use Rattle.steps.specs.Course.{told_move, Axis, north, east, sine_along, move, course, course_step}
+use Rattle.steps.specs.Course.{Axis, north, east, sine_along, move, course, course_step}
+use Rattle.steps.specs.Course.{move_along, told_move}
 use Rattle.sines.specs.Sine.{entry_in}
 use Rattle.steps.specs.declared.course.Moves.{Moves}
 use Rattle.sines.proofs.Own.{lent_entries, Entries}
 use Rattle.steps.specs.Distance.{grid, grid_step}
 use Rattle.steps.proofs.Laws.{product_most}
-use Rattle.steps.proofs.Moving.{move_given, along_most}
+use Rattle.steps.proofs.Moving.{moves_there as course_there, move_is as course_is, along_most}
 use Rattle.desk.specs.Line.{run, preliminary}
-use Rattle.desk.specs.Traverse.{along, long_of, azimuth_of, line, word_index}
-use Rattle.desk.specs.Inside.{with_legs, LegSound, Sound, RoomForLeg, Slight, Begun, Added}
-use Rattle.desk.specs.Inside.{Advanced, Stands, word_at, Ran}
+use Rattle.desk.specs.Traverse.{along, long_of, azimuth_of, line}
+use Rattle.whole.specs.Filled.{filled}
+use Rattle.whole.proofs.Filling.{filled_on}
+use Rattle.desk.specs.Inside.{no_leg, with_legs, LegSound, Sound, RoomForLeg, Bounded}
+use Rattle.desk.specs.Inside.{sum_of, begun, advanced, sums_at, kept_to}
+use Rattle.desk.specs.declared.vector.Vector.{Vector}
 use Rattle.desk.specs.Angles.{Balanced}
 use Rattle.desk.specs.declared.Frame.{Frame}
+use Rattle.desk.specs.declared.Leg.{Leg}
 use Rattle.desk.specs.declared.Sums.{Sums}
-use Rattle.desk.proofs.Pairs.{apart, own, before, later}
 
 -- ---- the grid distance of a leg
 module _ (distance factor : ℕ) (near : distance ≤ 20000000) (most : factor ≤ 10020010) where
@@ -39,15 +44,21 @@ module _ (distance factor : ℕ) (near : distance ≤ 20000000) (most : factor �
   grid_most = half_up_most (distance * factor) 10000000 20040020 (omega arith)
       (omega (arith, product_most distance factor 20000000 10020010 near most))
 
-  module _ (r : Count) (n : ℕ) (far : 1000 ≤ distance) (least : 9980000 ≤ factor)
-      (e : told_count r ≡ grid_step distance factor) (f : pos n ≡ (told_count r).value) where
-    pub grid_is : n ≡ grid distance factor
-    grid_is = ap nat_abs (f ∙ value_given (told_count r) _ _ e
-        (both _ _ (inside_yes 1000 20000000 distance far near)
-        (inside_yes 9980000 10020010 factor least most)))
+  module _ (r : Result ℕ OutOfRange) (far : 1000 ≤ distance) (least : 9980000 ≤ factor)
+      (e : told_count r ≡ grid_step distance factor) where
+    in_range_lem : (inside 1000 20000000 distance && inside 9980000 10020010 factor) ≡ true
+    in_range_lem = both _ _ (inside_yes 1000 20000000 distance far near)
+        (inside_yes 9980000 10020010 factor least most)
 
-    pub grid_small : n ≤ 20040020
-    grid_small = rw grid_is grid_most
+    pub grid_there : IsOk r
+    grid_there = has_value pos r _ _ e in_range_lem
+
+    module _ (n : ℕ) (f : r ≡ Ok n) where
+      pub grid_is : n ≡ grid distance factor
+      grid_is = ap nat_abs (value_told pos r n _ _ e in_range_lem f)
+
+      pub grid_small : n ≤ 20040020
+      grid_small = rw grid_is grid_most
 
 -- ---- the latitude or departure of a leg, by the entries of any table
 module _ (e : ℕ → ℤ) (entries : Entries e) where
@@ -64,44 +75,70 @@ module _ (e : ℕ → ℤ) (entries : Entries e) where
             (along_most e entries axis azimuth turned) near,
       )))
 
--- so a move that a lent table gives is slight
-pub course_small : (table : List ℕ) (axis : Axis) (distance azimuth : ℕ) (m : Moves)
-    → distance ≤ 20040020 → azimuth < circle
-    → told_move axis m ≡ course_step (entry_in table) axis distance azimuth
-    → Slight (told_move axis m).value
-course_small table axis distance azimuth m near turned g =
-    rw (move_given (entry_in table) axis distance azimuth m (omega arith) turned g)
-    (course_most (entry_in table) (lent_entries table) axis distance azimuth (omega arith) turned)
+-- so a lent table gives a leg its moves, which are the course along each axis, and slight
+module _ (table : List ℕ) (long : ℕ) (leg : Leg) (r : Result Moves OutOfRange)
+    (near : long ≤ 20040020) (turned : leg.azimuth < circle)
+    (n : told_move north r ≡ course_step (entry_in table) north long leg.azimuth)
+    (w : told_move east r ≡ course_step (entry_in table) east long leg.azimuth) where
+  abbrev e : ℕ → ℤ
+  e = entry_in table
 
-pub slight_fits : (v z : ℤ) → v ≡ z → Slight z → nat_abs v < 2 ^ 62
-slight_fits v z e h = rw e (omega arith)
+  pub moves_there : IsOk r
+  moves_there = course_there e north long leg.azimuth r (omega arith) turned n
 
-pub advanced : (table : List ℕ) (s r : Sums) (m : Moves) (long factor distance azimuth : ℕ)
-    → Added s long (told_move north m).value (told_move east m).value r
-    → long ≡ grid distance factor
-    → long ≤ 20040020 → azimuth < circle
-    → told_move north m ≡ course_step (entry_in table) north long azimuth
-    → told_move east m ≡ course_step (entry_in table) east long azimuth
-    → Advanced (entry_in table) s factor distance azimuth r
-advanced table s r m long factor distance azimuth a e near turned n w =
-    rw (← e) (rw (
-      move_given (entry_in table) north long azimuth m (omega arith) turned n,
-      move_given (entry_in table) east long azimuth m (omega arith) turned w,
-    ) at a)
+  module _ (m : Moves) (f : r ≡ Ok m) where
+    move_is : (axis : Axis) → move_along axis m ≡ course e axis long leg.azimuth
+    move_is north = course_is e north long leg.azimuth r (omega arith) turned n m f
+    move_is east = course_is e east long leg.azimuth r (omega arith) turned w m f
+
+    slight : (axis : Axis) → nat_abs (move_along axis m) ≤ 2010000
+    slight axis =
+        rw (move_is axis)
+        (course_most e (lent_entries table) axis long leg.azimuth (omega arith) turned)
+
+    pub moves_slight : (x : Vector) → x ≡ record { north = m.north; east = m.east }
+        → Bounded (2 ^ 40) x
+    moves_slight x i =
+        rw i (record { north = omega (arith, slight north); east = omega (arith, slight east) })
+
+    pub advanced_is : (s : Sums) (p x : Vector) (factor : ℕ) → p ≡ sum_of s.at x
+        → x ≡ record { north = m.north; east = m.east } → long ≡ grid leg.distance factor
+        → record { at = p; run = s.run + long } ≡ advanced e factor leg s
+    advanced_is s p x factor h i j = rw (h, i, move_is north, move_is east, j)
 
 -- ---- a balanced traverse whose fields are in range
-pub leg_sound : (b : Frame) (azimuths distances : List ℕ) (k : ℕ)
-    → Sound (with_legs b azimuths distances) → k < b.legs
-    → LegSound b.factor (get_or distances k 0) (get_or azimuths k 0)
-leg_sound b azimuths distances k sound h = sound.leg k h
+-- the legs of such a traverse, in the front of a list
+module _ (b : Frame) (legs : List Leg) (sound : Sound (with_legs b legs)) (few : length legs ≡ 64)
+  where
+    pub legs_over : length (take b.legs legs) ≡ b.legs
+    legs_over = length-take-le b.legs legs (omega (arith, sound.few))
 
--- the lists have a place for every station
-module _ (b : Balanced) (sound : Sound b) (k : ℕ) (h : k < b.legs) where
-  pub spots_room : (l : List ℤ) → 130 ≤ length l → 2 * (k + 1) + 1 < length l
-  spots_room l room = omega (arith, sound.few)
+    module _ (k : ℕ) (h : k < length (take b.legs legs)) where
+      low : k < b.legs
+      low = omega (arith, legs_over)
 
-  pub runs_room : (l : List ℕ) → 65 ≤ length l → k + 1 < length l
-  runs_room l room = omega (arith, sound.few)
+      pub leg_sound :
+          LegSound b.factor (get_or (take b.legs legs) k no_leg).distance
+          (get_or (take b.legs legs) k no_leg).azimuth
+      leg_sound =
+          rw (
+            get_or-take b.legs legs k no_leg low,
+            ← get_or-map (λ (x : Leg). x.distance) legs k no_leg,
+            ← get_or-map (λ (x : Leg). x.azimuth) legs k no_leg,
+          ) (sound.leg k low)
+
+      pub leg_on : (e : ℕ → ℤ) (s r : Sums) → s ≡ sums_at e (with_legs b legs) k
+          → r ≡ advanced e b.factor (get_or (take b.legs legs) k no_leg) s
+          → r ≡ sums_at e (with_legs b legs) (k + 1)
+      unfolding run preliminary
+      leg_on e s r i a =
+          a ∙ rw (
+            i,
+            get_or-take b.legs legs k no_leg low,
+            ← get_or-map (λ (x : Leg). x.distance) legs k no_leg,
+            ← get_or-map (λ (x : Leg). x.azimuth) legs k no_leg,
+            add-one k,
+          )
 
 pub run_most : (b : Balanced) → Sound b → (k : ℕ) → k ≤ b.legs → run (long_of b) k ≤ 20040020 * k
 unfolding run
@@ -135,96 +172,61 @@ module _ (e : ℕ → ℤ) (entries : Entries e) (b : Balanced) (sound : Sound b
         course_most e entries axis (long_of b k) (azimuth_of b k) (omega (arith, near)) leg.turned,
       ))
 
-  pub place_small : (axis : Axis) (k : ℕ) (z : ℤ) → z ≡ preliminary (line e axis b) k → k ≤ b.legs
-      → nat_abs z < 2 ^ 40
-  place_small axis k z g h =
-      rw g (omega (
+  place_small : (axis : Axis) (k : ℕ) → k ≤ b.legs
+      → nat_abs (preliminary (line e axis b) k) ≤ 2 ^ 40
+  place_small axis k h =
+      omega (
         arith,
         near_most (preliminary (line e axis b) k) (along axis b.from)
             (2010000 * k) (drift axis k h),
         sound.from axis,
         sound.few,
-      ))
+      )
 
-  pub stands_small : (k : ℕ) (s : Sums) → k ≤ b.legs → Stands e b k s → RoomForLeg s
-  stands_small k s h w =
-      record {
-        north = place_small north k _ w.north h;
-        east = place_small east k _ w.east h;
-        run = rw w.run (omega (arith, run_most b sound k h, sound.few));
-      }
-
--- ---- the sums, a leg at a time
-module _ (e : ℕ → ℤ) (b : Balanced) where
-  pub stands_first : (s : Sums) → Begun b.from s → Stands e b 0 s
-  unfolding run preliminary
-  stands_first s h = record { north = h.north; east = h.east; run = h.run }
-
-  pub stands_next : (k : ℕ) (s r : Sums) → Stands e b k s
-      → Advanced e s b.factor (get_or b.distances k 0) (get_or b.azimuths k 0) r
-      → Stands e b (k + 1) r
-  unfolding run preliminary
-  stands_next k s r h n =
-      rw (add-one k) (record {
-        north = rw (← h.north) n.north;
-        east = rw (← h.east) n.east;
-        run = rw (← h.run) n.run;
+  pub sums_small : (k : ℕ) (s : Sums) → k ≤ b.legs → s ≡ sums_at e b k → RoomForLeg s
+  sums_small k s h i =
+      rw i (record {
+        at = record { north = place_small north k h; east = place_small east k h };
+        run = omega (arith, run_most b sound k h, sound.few);
       })
 
-  -- ---- what is kept of every station up to the one reached
-  module _ (k : ℕ) (x y : ℤ) (r : ℕ) (l m : List ℤ) (p q : List ℕ) (room : 2 * k + 1 < length l)
-      (room_run : k < length p) (f : m ≡ set (set l (2 * k) x) (2 * k + 1) y)
-      (g : q ≡ set p k r) (is_north : x ≡ preliminary (line e north b) k)
-      (is_east : y ≡ preliminary (line e east b) k) (is_run : r ≡ run (long_of b) k) where
-    own_spot : (axis : Axis) → word_at m (word_index axis k) ≡ preliminary (line e axis b) k
-    own_spot north = rw f (own l k x y north room ∙ is_north)
-    own_spot east = rw f (own l k x y east room ∙ is_east)
-
-    -- with those of the stations before it
-    kept : ((axis : Axis) (j : ℕ) → j < k
-        → word_at l (word_index axis j) ≡ preliminary (line e axis b) j)
-        → ((j : ℕ) → j < k → get_or p j 0 ≡ run (long_of b) j)
-        → Ran e b k m q
-    kept spot long =
-        record {
-          spot =
-              λ axis j h.
-              elim (ℕ_discrete j k) [
-                | yes i ↦ rw i (own_spot axis)
-                | no i ↦ rw f (apart l k x y (word_index axis j) (before k j i axis)
-                    (later k j i axis) ∙ spot axis j (omega arith))
-              ];
-          run =
-              λ j h.
-              elim (ℕ_discrete j k) [
-                | yes i ↦ rw (i, g) (get_or-set_same p k r 0 room_run ∙ is_run)
-                | no i ↦ rw (g, get_or-set_other p k j r 0 i) (long j (omega arith))
-              ];
-        }
-
-  pub ran_first : (s : Sums) (l m : List ℤ) (p q : List ℕ) → 130 ≤ length l → 65 ≤ length p
-      → m ≡ set (set l (2 * 0) s.north.v) (2 * 0 + 1) s.east.v → q ≡ set p 0 s.run
-      → Begun b.from s → Ran e b 0 m q
+-- ---- before the first leg
+module _ (e : ℕ → ℤ) (b : Balanced) (s : Sums) (h : s ≡ begun b.from) where
+  pub sums_first : s ≡ sums_at e b 0
   unfolding run preliminary
-  ran_first s l m p q room room_run f g h =
-      kept 0 s.north.v s.east.v s.run l m p q (omega arith) (omega arith) f g h.north
-      h.east h.run (λ axis j i. absurd (omega arith)) (λ j i. absurd (omega arith))
+  sums_first = h
 
-  pub ran_next : (k : ℕ) (s t : Sums) (l m : List ℤ) (p q : List ℕ)
-      → m ≡ set (set l (2 * (k + 1)) t.north.v) (2 * (k + 1) + 1) t.east.v
-      → q ≡ set p (k + 1) t.run → Ran e b k l p → Stands e b k s
-      → Advanced e s b.factor (get_or b.distances k 0) (get_or b.azimuths k 0) t
-      → 130 ≤ length l → 65 ≤ length p → Sound b → k < b.legs → Ran e b (k + 1) m q
-  ran_next k s t l m p q f g h v a room room_run sound low =
-      let w = stands_next k s t v a in
-      kept (k + 1) t.north.v t.east.v t.run l m p q (omega (arith, sound.few))
-      (omega (arith, sound.few)) f g w.north w.east w.run
-      (λ axis j i. h.spot axis j (omega arith)) (λ j i. h.run j (omega arith))
+  pub kept_first : (l : List Sums) → set l 0 s ≡ filled (sums_at e b) 1 l
+  unfolding filled
+  kept_first l = rw sums_first
 
-  pub ran_last : (k : ℕ) (l : List ℤ) (p : List ℕ) → k ≤ b.legs → b.legs ≤ k → Ran e b k l p
-      → Ran e b b.legs l p
-  ran_last k l p h i w = let j : k ≡ b.legs = omega arith in subst (λ (n : ℕ). Ran e b n l p) j w
+-- ---- the run, a leg at a time
+module _ (e : ℕ → ℤ) (frame : Frame) (legs : List Leg) (k : ℕ) (s : Sums)
+    (sound : Sound (with_legs frame legs)) (few : length legs ≡ 64)
+    (i : s ≡ sums_at e (with_legs frame legs) k) where
+  abbrev b : Balanced
+  b = with_legs frame legs
 
-  pub stands_last : (k : ℕ) (s : Sums) → k ≤ b.legs → b.legs ≤ k → Stands e b k s
-      → Stands e b b.legs s
-  stands_last k s h i w = let j : k ≡ b.legs = omega arith in subst (λ (n : ℕ). Stands e b n s) j w
+  module _ (h : k < length (take frame.legs legs)) where
+    pub room_on : Entries e → RoomForLeg s
+    room_on entries =
+        sums_small e entries b sound k s (omega (arith, legs_over frame legs sound few)) i
+
+    module _ (r : Sums) (a : r ≡ advanced e frame.factor (get_or (take frame.legs legs) k no_leg) s)
+      where
+        pub sums_on : r ≡ sums_at e b (k + 1)
+        sums_on = leg_on frame legs sound few k h e s r i a
+
+        pub kept_on : (l m : List Sums) → l ≡ filled (sums_at e b) (k + 1) m
+            → set l (k + 1) r ≡ filled (sums_at e b) (k + 1 + 1) m
+        kept_on l m g = filled_on (sums_at e b) m (k + 1) r l g sums_on
+
+  module _ (h : k ≤ length (take frame.legs legs)) (j : length (take frame.legs legs) ≤ k) where
+    at_end : k ≡ frame.legs
+    at_end = omega (arith, legs_over frame legs sound few)
+
+    pub sums_last : s ≡ sums_at e b frame.legs
+    sums_last = subst (λ (n : ℕ). s ≡ sums_at e b n) at_end i
+
+    pub kept_last : (l m : List Sums) → l ≡ filled (sums_at e b) (k + 1) m → l ≡ kept_to e b m
+    kept_last l m g = subst (λ (n : ℕ). l ≡ filled (sums_at e b) (n + 1) m) at_end g

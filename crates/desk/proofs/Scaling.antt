@@ -5,7 +5,7 @@ use Prim.Native.Nat.{ℕ, suc, ◌+◌, ◌-◌, ◌*◌, ◌≤◌, ◌<◌}
 use native.Mathlib.Omega.{arith}
 use native.Mathlib.Decide.{dec_le}
 use native.Mathlib.Nat.{div-lt_iff_lt-mul}
-use mathlib.Core.Path.{◌≡◌, ◌∙◌, ap}
+use mathlib.Core.Path.{◌≡◌, ap}
 use mathlib.Core.Bool.{true, ◌&&◌, and-eq-true_iff}
 use borrow.Author.Tests.{leb-true}
 use lib.Dec.{leb}
@@ -14,14 +14,12 @@ use lib.Signed.{le_z}
 use Rattle.whole.specs.Nearest.{half_up}
 use Rattle.whole.proofs.Diff.{ints, same}
 use Rattle.whole.proofs.Rounding.{half_up_most}
-use Rattle.answer.specs.declared.Count.{Count}
-use Rattle.answer.specs.Told.{told_count}
-use Rattle.answer.proofs.Telling.{value_given, both, inside_yes}
-use Rattle.whole.specs.declared.Whole.{Whole}
+use Rattle.std.specs.Prelude.{Result, Ok, IsOk}
+use Rattle.answer.specs.declared.OutOfRange.{OutOfRange}
+use Rattle.answer.specs.Told.{told_count, inside}
+use Rattle.answer.proofs.Telling.{has_value, value_told, both, inside_yes}
 use Rattle.steps.specs.Distance.{sea_level, combine, sea_level_step, combine_step}
 use Rattle.steps.proofs.Laws.{product_most}
-use Rattle.desk.specs.Inside.{frame_of}
-use Rattle.tape.specs.declared.Control.{Control}
 
 -- a divisor of 20,905,000 to 20,926,000 feet
 quotient_range : (d : ℕ) → 20905000 ≤ d → d ≤ 20926000
@@ -66,45 +64,39 @@ combined_range z scale good least most = let s = sea_range z good in
     combined_most (sea_level z) scale s.0 s.1 least most
 
 -- ---- the steps, whose input is in range
-module _ (r : Count) (n : ℕ) (z : ℤ)
+module _ (r : Result ℕ OutOfRange) (z : ℤ)
     (good : (le_z (neg_ℤ (pos 1000)) z && le_z z (pos 20000)) ≡ true)
-    (t : told_count r ≡ sea_level_step z) (f : pos n ≡ (told_count r).value) where
-  pub sea_is : n ≡ sea_level z
-  sea_is = ap nat_abs (f ∙ value_given (told_count r) _ _ t good)
+    (t : told_count r ≡ sea_level_step z) where
+  pub sea_there : IsOk r
+  sea_there = has_value pos r _ _ t good
 
-  pub sea_low : 9990000 ≤ n
-  sea_low = rw sea_is (sea_range z good).0
+  module _ (n : ℕ) (f : r ≡ Ok n) where
+    pub sea_is : n ≡ sea_level z
+    sea_is = ap nat_abs (value_told pos r n _ _ t good f)
 
-  pub sea_high : n ≤ 10010000
-  sea_high = rw sea_is (sea_range z good).1
+    pub sea_low : 9990000 ≤ n
+    sea_low = rw sea_is (sea_range z good).0
 
-module _ (r : Count) (n sea scale : ℕ) (low : 9990000 ≤ sea) (high : sea ≤ 10010000)
+    pub sea_high : n ≤ 10010000
+    sea_high = rw sea_is (sea_range z good).1
+
+module _ (r : Result ℕ OutOfRange) (sea scale : ℕ) (low : 9990000 ≤ sea) (high : sea ≤ 10010000)
     (least : 9990000 ≤ scale) (most : scale ≤ 10010000)
-    (t : told_count r ≡ combine_step sea scale) (f : pos n ≡ (told_count r).value) where
-  combined_told : n ≡ combine sea scale
-  combined_told = ap nat_abs
-      (f ∙ value_given (told_count r) _ _ t
-      (both _ _ (inside_yes 9990000 10010000 sea low high)
-      (inside_yes 9990000 10010000 scale least most)))
+    (t : told_count r ≡ combine_step sea scale) where
+  good : (inside 9990000 10010000 sea && inside 9990000 10010000 scale) ≡ true
+  good = both _ _ (inside_yes 9990000 10010000 sea low high)
+      (inside_yes 9990000 10010000 scale least most)
 
-  pub combined_is : (z : ℤ) → sea ≡ sea_level z → n ≡ combine (sea_level z) scale
-  combined_is z e = rw (← e) combined_told
+  pub combined_there : IsOk r
+  combined_there = has_value pos r _ _ t good
 
-  pub combined_high : n < 10020011
-  combined_high = let m = combined_most sea scale low high least most in
-      rw combined_told (omega (arith, m.1))
+  module _ (n : ℕ) (f : r ≡ Ok n) where
+    combined_told : n ≡ combine sea scale
+    combined_told = ap nat_abs (value_told pos r n _ _ t good f)
 
--- ---- the factor in its place
-pub frame_is : (c : Control) (angles : ℕ) (w : Whole) (n : ℕ)
-    → n ≡ combine (sea_level c.elevation.v) c.scale
-    → record {
-      legs = c.legs;
-      angles = angles;
-      w = w;
-      factor = n;
-      from = c.from;
-      to = c.to;
-      place = c.place;
-    }
-    ≡ frame_of c angles w
-frame_is c angles w n e = rw e
+    pub combined_is : (z : ℤ) → sea ≡ sea_level z → n ≡ combine (sea_level z) scale
+    combined_is z e = rw (← e) combined_told
+
+    pub combined_high : n < 10020011
+    combined_high = let m = combined_most sea scale low high least most in
+        rw combined_told (omega (arith, m.1))

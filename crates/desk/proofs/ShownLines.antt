@@ -14,7 +14,8 @@ use lib.IntN.{ℤ}
 use lib.Seq.{take-append_seam}
 use borrow.Author.Tests.{eqb-true, eqb-false}
 use Rattle.whole.proofs.Branch.{by_test}
-use Rattle.desk.specs.declared.Page.{Page}
+use Rattle.std.specs.Prelude.{Result}
+use Rattle.answer.specs.declared.Refused.{Refused}
 use Rattle.desk.specs.Answer.{ToldTraverse}
 use Rattle.desk.specs.Sheet.{close_line, line_of, station_lines, area_line, text_of, over}
 use Rattle.desk.specs.Sheet.{shown, shown_bytes, sheet_bytes, answered, sheet_words}
@@ -47,7 +48,7 @@ line_in_text t words k h =
     (r.0 ++ area_line t.area t.loop, rw r.1 (simp append_assoc))
 
 -- ---- what the sheet step leaves where its number is 0
-module _ (e : ℕ → ℤ) (tape out left : List ℕ) (r : Page) (s : Showed e tape out left r)
+module _ (e : ℕ → ℤ) (tape out left : List ℕ) (r : Result ℕ Refused) (s : Showed e tape out left r)
     (accepts : (told_sheet r).number ≡ 0) where
   -- the two tests that the answer has passed
   passed : (ltb (length out) sheet_bytes ≡ false) × (eqb (answered e tape).number 0 ≡ true)
@@ -55,7 +56,7 @@ module _ (e : ℕ → ℤ) (tape out left : List ℕ) (r : Page) (s : Showed e t
   passed =
       let few = ltb (length out) sheet_bytes in
       let none = eqb (answered e tape).number 0 in
-      let P : Page → Type 0 = λ p. (told_sheet p).number ≡ 0 → (few ≡ false) × (none ≡ true) in
+      let P : ToldSheet → Type 0 = λ t. t.number ≡ 0 → (few ≡ false) × (none ≡ true) in
       by_test P few (λ t z. absurd (omega arith))
       (λ wide. by_test P none (λ t z. (wide, t))
       (λ t z. absurd (eqb-false (answered e tape).number 0 t z)))
@@ -74,5 +75,5 @@ module _ (e : ℕ → ℤ) (tape out left : List ℕ) (r : Page) (s : Showed e t
   unfolding paged shown
   showed_sheet =
       let text = text_of (answered e tape) (sheet_words e tape) in
-      let long : (told_sheet r).used ≡ length text = rw (s.answer, passed.0, passed.1) in
+      let long : (told_sheet r).used ≡ length text = rw (s.tells, passed.0, passed.1) in
       rw (long, showed_text) (take-append_seam text (drop (length text) out))

@@ -1,28 +1,33 @@
 -- Any two outcomes that a promise of this crate allows coincide, the answer and every lent word or
--- byte. What an answer tells is the whole of it: number 0 is told by an adjusted traverse alone,
--- since an accepted tape has a leg and a refusal tells none.
-use Prim.Native.Nat.{ℕ, ◌≤◌}
+-- byte. What an answer tells is the whole of it: number 0 is told by an adjusted traverse or a text
+-- alone, since no refusal has the number 0, and a refusal's number names it.
+use Prim.Native.Nat.{ℕ}
 use native.Mathlib.Omega.{arith}
 use mathlib.Core.Path.{◌≡◌, sym, ◌∙◌, ap}
-use mathlib.Core.Bool.{cond}
 use mathlib.Core.List.{List}
-use borrow.Author.Tests.{ne_eqb}
-use lib.Dec.{eqb}
 use lib.ListN.{length}
 use lib.IntN.{ℤ}
-use Rattle.desk.specs.declared.Answer.{Answer}
-use Rattle.desk.specs.declared.Answer.TheVariants.{Refused, Adjusted}
-use Rattle.desk.specs.declared.Page.{Page}
-use Rattle.desk.specs.Sheet.{over, Showed, printed_in}
-use Rattle.desk.specs.Answer.{ToldTraverse, told_traverse, adjusted_traverse, traversed_by}
-use Rattle.desk.specs.Answer.{traversed_words_by}
-use Rattle.desk.proofs.Accepted.{accepted, accepted_told, accepted_sound}
+use Rattle.std.specs.Prelude.{Result, Ok, Err}
+use Rattle.answer.specs.Refusal.{number_of}
+use Rattle.answer.specs.declared.Refused.{Refused}
+use Rattle.answer.proofs.Single.{one_refusal}
+use Rattle.desk.specs.declared.Figures.{Figures}
+use Rattle.desk.specs.Answer.{ToldTraverse, told_traverse, traversed_by, traversed_words_by}
+use Rattle.desk.specs.Sheet.{over, ToldSheet, told_sheet, Showed, printed_in}
+use Rattle.desk.proofs.Numbers.{number_in}
 
--- the answer that tells it
-abbrev telling : ToldTraverse → Answer
-telling t =
-    cond (eqb t.number 0)
-    (Adjusted (record {
+-- no refusal has the number 0
+pub refused_some : (r : Refused) → (told_traverse (Err r)).number ≡ 0 → ⊥
+refused_some r z = omega (arith, number_in r.refusal)
+
+one_refused : (r s : Refused) → number_of r.refusal ≡ number_of s.refusal → r.place ≡ s.place
+    → r ≡ s
+one_refused r s e f = rw (one_refusal r.refusal s.refusal e, f)
+
+-- the figures that are told
+abbrev figures_in : ToldTraverse → Figures
+figures_in t =
+    record {
       legs = t.legs;
       w = record { v = t.w };
       north_closure = record { v = t.north_closure };
@@ -30,41 +35,38 @@ telling t =
       precision = t.precision;
       area = record { v = t.area };
       looped = t.loop;
-    }))
-    (Refused t.number t.place)
+    }
 
-module _ (e : ℕ → ℤ) (tape : List ℕ) (room : ℕ) where
-  some_leg : (traversed_by e tape room).number ≡ 0 → 1 ≤ (traversed_by e tape room).legs
-  unfolding adjusted_traverse
-  some_leg z = let a = accepted e tape room z in
-      rw (accepted_told e tape room a, a.closes) (accepted_sound e tape room a).some
+one_answer : (x y : Result Figures Refused) → told_traverse x ≡ told_traverse y → x ≡ y
+one_answer (Ok f) (Ok g) h = ap (λ (t : ToldTraverse). Ok (figures_in t)) h
+one_answer (Err r) (Err s) h =
+    ap Err
+    (one_refused r s (ap (λ (t : ToldTraverse). t.number) h)
+    (ap (λ (t : ToldTraverse). t.place) h))
+one_answer (Ok f) (Err r) h =
+    absurd (refused_some r (ap (λ (t : ToldTraverse). t.number) (sym h)))
+one_answer (Err r) (Ok f) h = absurd (refused_some r (ap (λ (t : ToldTraverse). t.number) h))
 
-  -- so no refusal has the number 0
-  pub refused_some : (n p : ℕ) → told_traverse (Refused n p) ≡ traversed_by e tape room → n ≡ 0 → ⊥
-  refused_some n p h z =
-      omega (
-        arith,
-        some_leg (ap (λ (t : ToldTraverse). t.number) (sym h) ∙ z),
-        ap (λ (t : ToldTraverse). t.legs) h,
-      )
-
-  one_answer : (x : Answer) → told_traverse x ≡ traversed_by e tape room
-      → x ≡ telling (traversed_by e tape room)
-  one_answer (Adjusted f) h = ap telling h
-  one_answer (Refused n p) h = rw (← h, ne_eqb n 0 (refused_some n p h))
+one_page : (x y : Result ℕ Refused) → told_sheet x ≡ told_sheet y → x ≡ y
+one_page (Ok m) (Ok n) h = ap (λ (t : ToldSheet). Ok t.used) h
+one_page (Err r) (Err s) h =
+    ap Err
+    (one_refused r s (ap (λ (t : ToldSheet). t.number) h) (ap (λ (t : ToldSheet). t.place) h))
+one_page (Ok n) (Err r) h = absurd (refused_some r (ap (λ (t : ToldSheet). t.number) (sym h)))
+one_page (Err r) (Ok n) h = absurd (refused_some r (ap (λ (t : ToldSheet). t.number) h))
 
 -- `traverse`, and with the entries of a lent table `traverse_in`
-pub traverse_single : (e : ℕ → ℤ) (tape : List ℕ) (words l m : List ℤ) (x y : Answer)
+pub traverse_single : (e : ℕ → ℤ) (tape : List ℕ) (words l m : List ℤ)
+    (x y : Result Figures Refused)
     → told_traverse x ≡ traversed_by e tape (length words) → l ≡ traversed_words_by e tape words
     → told_traverse y ≡ traversed_by e tape (length words) → m ≡ traversed_words_by e tape words
     → (x ≡ y) × (l ≡ m)
-traverse_single e tape words l m x y c f g h =
-    (one_answer e tape (length words) x c ∙ sym (one_answer e tape (length words) y g), f ∙ sym h)
+traverse_single e tape words l m x y c f g h = (one_answer x y (c ∙ sym g), f ∙ sym h)
 
 -- `sheet`, and with the entries of a lent table `sheet_in`
-pub sheet_single : (e : ℕ → ℤ) (tape out l m : List ℕ) (x y : Page) → Showed e tape out l x
-    → Showed e tape out m y → (x ≡ y) × (l ≡ m)
-sheet_single e tape out l m x y s t = (s.answer ∙ sym t.answer, s.left ∙ sym t.left)
+pub sheet_single : (e : ℕ → ℤ) (tape out l m : List ℕ) (x y : Result ℕ Refused)
+    → Showed e tape out l x → Showed e tape out m y → (x ≡ y) × (l ≡ m)
+sheet_single e tape out l m x y s t = (one_page x y (s.tells ∙ sym t.tells), s.left ∙ sym t.left)
 
 -- `print`
 pub print_single : (tape out l m : List ℕ) (x y : ℕ)

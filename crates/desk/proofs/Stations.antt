@@ -23,10 +23,13 @@ use Rattle.desk.specs.Line.{run, run_all, preliminary, closure, share_at, adjust
 use Rattle.desk.specs.Traverse.{along, long_of, line, word_index, with_stations, offset}
 use Rattle.desk.specs.Traverse.{offsets_to, is_loop, area_of}
 use Rattle.desk.specs.Answer.{told_traverse, closes_on, adjusted_traverse}
-use Rattle.desk.specs.Inside.{with_legs, Sound, Ended, put_to, taken_from, AreaRanged, Figured}
-use Rattle.desk.specs.declared.Answer.TheVariants.{Adjusted}
+use Rattle.desk.specs.Inside.{with_legs, Sound, sums_at, kept_to, left, put_to, taken_from}
+use Rattle.desk.specs.Inside.{AreaRanged, Figured}
+use Rattle.std.specs.Prelude.{Ok}
 use Rattle.desk.specs.declared.Figures.{Figures}
 use Rattle.desk.specs.declared.Frame.{Frame}
+use Rattle.desk.specs.declared.Leg.{Leg}
+use Rattle.desk.specs.declared.Sums.{Sums}
 use Rattle.desk.specs.declared.Closure.{Closure}
 use Rattle.desk.specs.Angles.{Balanced}
 use Rattle.desk.proofs.Compass.{run_up, first_fixed}
@@ -118,10 +121,13 @@ module _ (e : ℕ → ℤ) (entries : Entries e) (b : Balanced) (sound : Sound b
             some = sound.some;
             few = sound.few;
             room = rw (g, placed_length e b (b.legs + 1) l) room;
-            north = λ k h. place_small north k (near north) (omega arith) _
-                (word north k (omega arith));
-            east = λ k h. place_small east k (near east) (omega arith) _
-                (word east k (omega arith));
+            each =
+                λ k h.
+                let n = place_small north k (near north) (omega arith) _
+                (word north k (omega arith)) in
+                let w = place_small east k (near east) (omega arith) _
+                (word east k (omega arith)) in
+                record { north = omega (arith, n); east = omega (arith, w) };
             near = rw (taken_is b.legs (omega arith)) (offsets_small b.legs (omega arith));
           }
 
@@ -148,39 +154,40 @@ module _ (e : ℕ → ℤ) (entries : Entries e) (b : Balanced) (sound : Sound b
         )) (λ t. omega arith)
 
 -- ---- the second step, once its test is passed
-module _ (e : ℕ → ℤ) (entries : Entries e) (frame : Frame) (azimuths distances : List ℕ)
-    (spots : List ℤ) (runs : List ℕ) (c : Closure)
-    (h : Ended e (with_legs frame azimuths distances) spots runs c)
-    (x : Bool) (t : x ≡ closes c.north.v c.east.v c.distance) (y : x ≡ true)
+module _ (e : ℕ → ℤ) (entries : Entries e) (frame : Frame) (legs : List Leg)
+    (kept none : List Sums) (end : Sums) (c : Closure) (sound : Sound (with_legs frame legs))
+    (room : length none ≡ 65) (ran : kept ≡ kept_to e (with_legs frame legs) none)
+    (last : end ≡ sums_at e (with_legs frame legs) frame.legs) (is : c ≡ left frame.to end)
+    (x : Bool) (t : x ≡ closes c.at.north.v c.at.east.v c.distance) (y : x ≡ true)
     (l : List ℤ) where
   abbrev b : Balanced
-  b = with_legs frame azimuths distances
+  b = with_legs frame legs
 
   passed : x ≡ closes_on e b
-  passed = test_is e entries frame azimuths distances spots runs c h x t
+  passed = test_is e entries frame legs kept none end c sound room ran last is x t
 
   all_near : (axis : Axis) → nat_abs (closure (line e axis b)) ≤ 26000
-  all_near axis = closes_near b h.sound e axis (sym passed ∙ y)
+  all_near axis = closes_near b sound e axis (sym passed ∙ y)
 
   -- the words are those of the adjusted stations, and in the ranges of the area step
   pub passed_words : 130 ≤ length l
-      → AreaRanged frame.legs (put_to spots runs c (frame.legs + 1) l)
-  passed_words room = placed_words e entries b h.sound all_near l _ room
-      (put_all_is e entries frame azimuths distances spots runs c h l _ refl)
+      → AreaRanged frame.legs (put_to kept c (frame.legs + 1) l)
+  passed_words wide = placed_words e entries b sound all_near l _ wide
+      (put_all_is e entries frame legs kept none end c sound room ran last is l _ refl)
 
-  pub passed_told : (words : List ℤ) (r : Figures) → words ≡ put_to spots runs c (frame.legs + 1) l
-      → Figured frame c words r → told_traverse (Adjusted r) ≡ adjusted_traverse e b
+  pub passed_told : (words : List ℤ) (r : Figures) → words ≡ put_to kept c (frame.legs + 1) l
+      → Figured frame c words r → told_traverse (Ok r) ≡ adjusted_traverse e b
   unfolding adjusted_traverse area_of
   passed_told words r g f =
-      let room : 130 ≤ length l =
+      let wide : 130 ≤ length l =
       omega (
         arith,
         f.room,
         ap length g,
-        put_length frame.legs spots runs c (frame.legs + 1) l,
+        put_length kept c (frame.legs + 1) l,
       ) in
-      let taken = taken_is e entries b h.sound all_near l words room
-      (put_all_is e entries frame azimuths distances spots runs c h l words g) b.legs
+      let taken = taken_is e entries b sound all_near l words wide
+      (put_all_is e entries frame legs kept none end c sound room ran last is l words g) b.legs
       (omega arith) in
       rw (
         ← passed,
@@ -193,7 +200,6 @@ module _ (e : ℕ → ℤ) (entries : Entries e) (frame : Frame) (azimuths dista
         f.looped,
         f.area,
         taken,
-        h.closed.north,
-        h.closed.east,
-        h.closed.distance,
+        is,
+        last,
       )

@@ -1,7 +1,11 @@
 -- The two steps one after the other. A tape that reads has its fields in range, so no step asks for
 -- more than it has, and each way out of the code is the same way out of the definition.
 use Prim.Native.Nat.{ℕ, ◌≤◌, ◌<◌}
-use mathlib.Core.Path.{◌≡◌, refl, sym, ◌∙◌, subst}
+use Rattle.std.specs.Prelude.{Result, Ok, Err}
+use Rattle.answer.specs.declared.Refused.{Refused}
+use Rattle.answer.specs.declared.Refusal.TheVariants.{NoRoom}
+use Rattle.desk.specs.Angles.{Balanced}
+use mathlib.Core.Path.{◌≡◌, sym, ◌∙◌, subst}
 use mathlib.Core.List.{List}
 use borrow.Author.Tests.{lt-ltb, le-ltb}
 use lib.ListN.{length}
@@ -14,13 +18,10 @@ use Rattle.tape.specs.Fields.{Fields, fields_of, AllBytes, DoesRead, taken_of}
 use Rattle.whole.proofs.Branch.{T_true, by_test}
 use Rattle.tape.proofs.Ranges.{Ranged, ranged}
 use Rattle.tape.specs.declared.Control.{Control}
-use Rattle.tape.specs.declared.Taken.{Taken}
-use Rattle.tape.specs.declared.Taken.TheVariants as taken
-use Rattle.desk.specs.declared.Answer.{Answer}
-use Rattle.desk.specs.declared.Checked.{Checked}
-use Rattle.desk.specs.declared.Checked.TheVariants as checked
+use Rattle.desk.specs.declared.Figures.{Figures}
 use Rattle.desk.specs.declared.Frame.{Frame}
-use Rattle.desk.specs.Answer.{told_traverse, refused_traverse, First, stopped, good}
+use Rattle.desk.specs.declared.Leg.{Leg}
+use Rattle.desk.specs.Answer.{told_traverse}
 use Rattle.desk.specs.Answer.{checked_angles, first_of, first_for, adjusted_traverse}
 use Rattle.desk.specs.Answer.{adjusted_words, after_first, words_after_first, traversed_by}
 use Rattle.desk.specs.Answer.{traversed_words_by}
@@ -62,56 +63,54 @@ tape_ready tape r = ready_of (fields_of tape) (ranged tape r)
 
 -- ---- the two steps of a tape that reads
 -- a first step that does not refuse leaves a traverse in range to the second
-abbrev Leaves : First → Type 0
-Leaves (stopped n p) = n ≡ n
-Leaves (good b) = Sound b
+abbrev Leaves : Result Balanced Refused → Type 0
+Leaves (Err r) = Unit {0}
+Leaves (Ok b) = Sound b
 
-module _ (tape : List ℕ) (r : Checked) (azimuths distances : List ℕ)
-    (f : checked_as r azimuths distances ≡ checked_angles (fields_of tape)) where
+module _ (tape : List ℕ) (r : Result Frame Refused) (legs : List Leg)
+    (f : checked_as r legs ≡ checked_angles (fields_of tape)) where
   -- what was checked, by what it came to
-  by_checked : {A : Type 0} (g : First → A) (x : Checked) → r ≡ x
-      → g (checked_as x azimuths distances) ≡ g (checked_angles (fields_of tape))
+  by_checked : {A : Type 0} (g : Result Balanced Refused → A) (x : Result Frame Refused) → r ≡ x
+      → g (checked_as x legs) ≡ g (checked_angles (fields_of tape))
   by_checked g x h = rw (← h, f)
 
-  pub first_sound : (c : Control) (b : Frame) → Known tape c → r ≡ checked.Good b
-      → Sound (with_legs b azimuths distances)
+  pub first_sound : (c : Control) (b : Frame) → Known tape c → r ≡ Ok b
+      → Sound (with_legs b legs)
   unfolding checked_angles
   first_sound c b known h =
-      subst Leaves (sym (by_checked (λ (x : First). x) (checked.Good b) h))
+      subst Leaves (sym (by_checked (λ x. x) (Ok b) h))
       (by_test Leaves (closes_angles _ _)
-      (λ t. sound_of (fields_of tape) (tape_ready tape known.reads)) (λ t. refl))
+      (λ t. sound_of (fields_of tape) (tape_ready tape known.reads)) (λ t. tt))
 
   module _ (e : ℕ → ℤ) where
-    module _ (n p : ℕ) (h : r ≡ checked.Refused n p) where
-      pub stopped_told : refused_traverse n p ≡ after_first e (checked_angles (fields_of tape))
-      stopped_told = by_checked (after_first e) (checked.Refused n p) h
+    module _ (x : Refused) (h : r ≡ Err x) where
+      pub stopped_told : told_traverse (Err x) ≡ after_first e (checked_angles (fields_of tape))
+      stopped_told = by_checked (after_first e) (Err x) h
 
       pub stopped_words : (words : List ℤ)
           → words ≡ words_after_first e (checked_angles (fields_of tape)) words
-      stopped_words words =
-          by_checked (λ (x : First). words_after_first e x words) (checked.Refused n p) h
+      stopped_words words = by_checked (λ y. words_after_first e y words) (Err x) h
 
-    module _ (b : Frame) (h : r ≡ checked.Good b) where
-      pub settled_told : (a : Answer)
-          → told_traverse a ≡ adjusted_traverse e (with_legs b azimuths distances)
+    module _ (b : Frame) (h : r ≡ Ok b) where
+      pub settled_told : (a : Result Figures Refused)
+          → told_traverse a ≡ adjusted_traverse e (with_legs b legs)
           → told_traverse a ≡ after_first e (checked_angles (fields_of tape))
-      settled_told a g = g ∙ by_checked (after_first e) (checked.Good b) h
+      settled_told a g = g ∙ by_checked (after_first e) (Ok b) h
 
       pub settled_words : (l words : List ℤ)
-          → l ≡ adjusted_words e (with_legs b azimuths distances) words
+          → l ≡ adjusted_words e (with_legs b legs) words
           → l ≡ words_after_first e (checked_angles (fields_of tape)) words
-      settled_words l words g =
-          g ∙ by_checked (λ (x : First). words_after_first e x words) (checked.Good b) h
+      settled_words l words g = g ∙ by_checked (λ y. words_after_first e y words) (Ok b) h
 
 -- ---- the whole, by any table of sines
-pub known_is : (tape : List ℕ) (t : Taken) → AllBytes tape → t ≡ taken_of tape → (c : Control)
-    → t ≡ taken.Reads c → Known tape c
+pub known_is : (tape : List ℕ) (t : Result Control Refused) → AllBytes tape → t ≡ taken_of tape
+    → (c : Control) → t ≡ Ok c → Known tape c
 known_is tape t b f c h = let k = took tape c (sym f ∙ h) in
     record { bytes = b; reads = k.0; is = k.1 }
 
 module _ (e : ℕ → ℤ) (tape : List ℕ) (words : List ℤ) where
   module _ (wide : 130 ≤ length words) (c : Control) (known : Known tape c) where
-    pub known_told : (r : Answer)
+    pub known_told : (r : Result Figures Refused)
         → told_traverse r ≡ after_first e (checked_angles (fields_of tape))
         → told_traverse r ≡ traversed_by e tape (length words)
     unfolding traversed_by first_for first_of
@@ -122,32 +121,22 @@ module _ (e : ℕ → ℤ) (tape : List ℕ) (words : List ℤ) where
     unfolding traversed_words_by first_for first_of
     known_words l g = rw (le-ltb (length words) 130 wide, known.reads.reads) g
 
-  module _ (few : length words < 130) where
-    pub short_told : refused_traverse 1 0 ≡ traversed_by e tape (length words)
-    unfolding traversed_by first_for
-    short_told = rw (lt-ltb (length words) 130 few)
+  module _ (x : Refused) (few : length words < 130) (h : x ≡ record { refusal = NoRoom; place = 0 })
+    where
+      pub short_told : told_traverse (Err x) ≡ traversed_by e tape (length words)
+      unfolding traversed_by first_for
+      short_told = rw (h, lt-ltb (length words) 130 few)
 
-    pub short_words : words ≡ traversed_words_by e tape words
-    unfolding traversed_words_by first_for
-    short_words = rw (lt-ltb (length words) 130 few)
+      pub short_words : words ≡ traversed_words_by e tape words
+      unfolding traversed_words_by first_for
+      short_words = rw (lt-ltb (length words) 130 few)
 
-  module _ (wide : 130 ≤ length words) (t : Taken) (f : t ≡ taken_of tape) where
-    module _ (n p : ℕ) (h : t ≡ taken.Refused n p) where
-      pub refused_told : refused_traverse n p ≡ traversed_by e tape (length words)
-      unfolding traversed_by first_for first_of
-      refused_told = rw (le-ltb (length words) 130 wide, took_not tape n p (sym f ∙ h))
+  module _ (wide : 130 ≤ length words) (t : Result Control Refused) (f : t ≡ taken_of tape)
+      (x : Refused) (h : t ≡ Err x) where
+    pub refused_told : told_traverse (Err x) ≡ traversed_by e tape (length words)
+    unfolding traversed_by first_for first_of
+    refused_told = rw (le-ltb (length words) 130 wide, took_not tape x (sym f ∙ h))
 
-      pub refused_words : words ≡ traversed_words_by e tape words
-      unfolding traversed_words_by first_for first_of
-      refused_words = rw (le-ltb (length words) 130 wide, took_not tape n p (sym f ∙ h))
-
-    module _ (bytes : AllBytes tape) (c : Control) (h : t ≡ taken.Reads c) where
-      pub good_told : (r : Answer)
-          → told_traverse r ≡ after_first e (checked_angles (fields_of tape))
-          → told_traverse r ≡ traversed_by e tape (length words)
-      good_told = known_told wide c (known_is tape t bytes f c h)
-
-      pub good_words : (l : List ℤ)
-          → l ≡ words_after_first e (checked_angles (fields_of tape)) words
-          → l ≡ traversed_words_by e tape words
-      good_words = known_words wide c (known_is tape t bytes f c h)
+    pub refused_words : words ≡ traversed_words_by e tape words
+    unfolding traversed_words_by first_for first_of
+    refused_words = rw (le-ltb (length words) 130 wide, took_not tape x (sym f ∙ h))

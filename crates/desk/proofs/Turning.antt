@@ -13,7 +13,8 @@ use Rattle.steps.specs.Azimuth.{onward, balanced}
 use Rattle.steps.proofs.Turning.{turn_is}
 use Rattle.whole.specs.Filled.{filled}
 use Rattle.whole.proofs.Filling.{filled_length, filled_at, filled_over}
-use Rattle.desk.specs.Inside.{AllTurned, balanced_by, balanced_in}
+use Rattle.desk.specs.Inside.{no_leg, leg_by, AllTurned, balanced_leg, balanced_in}
+use Rattle.desk.specs.declared.Leg.{Leg}
 use Rattle.desk.specs.Turns.{Turns, carried, balanced_at}
 
 pub balanced_most : (azimuth : ℕ) (s : ℤ) → balanced azimuth s < circle
@@ -37,24 +38,28 @@ module _ (t : Turns) where
   unfolding balanced_at
   balanced_at_turned w k = balanced_most _ _
 
-  -- ---- the azimuths of n legs in a list
-  module _ (n : ℕ) (l : List ℕ) (room : n ≤ length l) where
-    pub filled_turned : t.first < circle → AllTurned n (filled (carried t) n l)
+  -- ---- n legs in a list, whose distances are d
+  module _ (d : ℕ → ℕ) (n : ℕ) (l : List Leg) (room : n ≤ length l) where
+    pub filled_turned : t.first < circle → AllTurned n (filled (leg_by (carried t) d) n l)
     filled_turned h =
         record {
-          room = omega (arith, filled_length (carried t) l n);
-          each = λ k i. rw (filled_at (carried t) l n k room i) (carried_turned h k);
+          room = omega (arith, filled_length (leg_by (carried t) d) l n);
+          each =
+              λ k i.
+              rw (filled_at (leg_by (carried t) d) l no_leg n k room i)
+              (carried_turned h k);
         }
 
     pub filled_balanced : (w : ℤ)
-        → balanced_in w t.ahead t.shared n (filled (carried t) n l)
-        ≡ filled (balanced_at t w) n l
+        → balanced_in w t.ahead t.shared n (filled (leg_by (carried t) d) n l)
+        ≡ filled (leg_by (balanced_at t w) d) n l
     unfolding balanced_at
     filled_balanced w =
-        let by = balanced_by w t.ahead t.shared (filled (carried t) n l) in
-        filled_over (carried t) by (balanced_at t w) l n room
-        (λ k i. rw (filled_at (carried t) l n k room i))
+        let carried_legs = filled (leg_by (carried t) d) n l in
+        filled_over no_leg (leg_by (carried t) d) (balanced_leg w t.ahead t.shared carried_legs)
+        (leg_by (balanced_at t w) d) l n room
+        (λ k i. rw (filled_at (leg_by (carried t) d) l no_leg n k room i))
 
-    pub filled_balanced_at : (w : ℤ) (k : ℕ) → k < n
-        → get_or (filled (balanced_at t w) n l) k 0 ≡ balanced_at t w k
-    filled_balanced_at w k h = filled_at (balanced_at t w) l n k room h
+  pub filled_balanced_at : (n : ℕ) (l : List ℕ) → n ≤ length l → (w : ℤ) (k : ℕ) → k < n
+      → get_or (filled (balanced_at t w) n l) k 0 ≡ balanced_at t w k
+  filled_balanced_at n l room w k h = filled_at (balanced_at t w) l 0 n k room h

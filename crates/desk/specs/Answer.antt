@@ -1,21 +1,22 @@
 -- docs/RULES.md, "Nine refusals" and "Closure and compass rule": what a traverse is answered with,
 -- and what is left in the lent words.
-use Rattle.std.specs.Prelude.{Bool, false, cond, List, ℕ, ◌+◌, ◌*◌, ltb, length, ℤ, pos}
+use Rattle.std.specs.Prelude.{Bool, false, cond, List, ℕ, ◌+◌, ◌*◌, ltb, length, ℤ, pos, Result, Ok}
+use Rattle.std.specs.Prelude.{Err}
 use Rattle.answer.specs.Limit.{most_legs}
-use Rattle.answer.specs.Refusal.{no_room, bad_angles, bad_closure}
+use Rattle.answer.specs.Refusal.{number_of, bad_closure}
+use Rattle.answer.specs.declared.Refusal.TheVariants.{NoRoom, BadAngles}
+use Rattle.answer.specs.declared.Refused.{Refused}
 use Rattle.minutes.specs.Entry.{entry}
 use Rattle.steps.specs.Azimuth.{closes_angles}
 use Rattle.steps.specs.Closure.{closes, precision}
 use Rattle.steps.specs.Course.{north, east}
 use Rattle.tape.specs.Fields.{Fields, fields_of}
-use Rattle.tape.specs.declared.Reading.{Reading}
-use Rattle.tape.specs.declared.Reading.TheVariants as reading
-use Rattle.tape.specs.Tape.{reading_of}
+use Rattle.tape.specs.declared.State.{State}
+use Rattle.tape.specs.Tape.{refused_at, reading_of}
 use Rattle.desk.specs.Angles.{misclosure_of, Balanced, balanced_traverse}
 use Rattle.desk.specs.Line.{run, closure}
 use Rattle.desk.specs.Traverse.{long_of, line, with_stations, is_loop, area_of}
-use Rattle.desk.specs.declared.Answer.{Answer}
-use Rattle.desk.specs.declared.Answer.TheVariants.{Refused, Adjusted}
+use Rattle.desk.specs.declared.Figures.{Figures}
 
 -- "stations 0 to n": one more than there are legs. src/lib.rt has the same name
 abbrev pub most_stations : ℕ
@@ -54,9 +55,9 @@ refused_traverse n p =
       loop = false;
     }
 
-abbrev pub told_traverse : Answer → ToldTraverse
-told_traverse (Refused n p) = refused_traverse n p
-told_traverse (Adjusted f) =
+abbrev pub told_traverse : Result Figures Refused → ToldTraverse
+told_traverse (Err r) = refused_traverse (number_of r.refusal) r.place
+told_traverse (Ok f) =
     record {
       number = 0;
       place = 0;
@@ -71,25 +72,21 @@ told_traverse (Adjusted f) =
 
 -- ---- the first step: refusals 2 to 7 of the reading, then "Refused (8) exactly when its size
 -- exceeds 100 x (n+1)", at the close
-pub data First : Type 0 where
-  stopped : ℕ → ℕ → First
-  good : Balanced → First
-
-unfoldable pub checked_angles : Fields → First
+unfoldable pub checked_angles : Fields → Result Balanced Refused
 checked_angles f =
-    cond (closes_angles (misclosure_of f) f.line.legs) (good (balanced_traverse f))
-    (stopped bad_angles f.closing.place)
+    cond (closes_angles (misclosure_of f) f.line.legs) (Ok (balanced_traverse f))
+    (refused_at BadAngles f.closing.place)
 
-abbrev pub first_if : Reading → Fields → First
-first_if (reading.Refused n p) f = stopped n p
-first_if (reading.Reads st) f = checked_angles f
+abbrev pub first_if : Result State Refused → Fields → Result Balanced Refused
+first_if (Err r) f = Err r
+first_if (Ok st) f = checked_angles f
 
-unfoldable pub first_of : List ℕ → First
+unfoldable pub first_of : List ℕ → Result Balanced Refused
 first_of tape = first_if (reading_of tape) (fields_of tape)
 
 -- "Refusal 1 is tested first", "under 130 words for coordinates"
-unfoldable pub first_for : List ℕ → ℕ → First
-first_for tape room = cond (ltb room station_words) (stopped no_room 0) (first_of tape)
+unfoldable pub first_for : List ℕ → ℕ → Result Balanced Refused
+first_for tape room = cond (ltb room station_words) (refused_at NoRoom 0) (first_of tape)
 
 -- ---- the second step, by the entries e of a table of sines: 9 at the close, or the adjusted
 -- traverse
@@ -127,16 +124,16 @@ unfoldable pub adjusted_words : (ℕ → ℤ) → Balanced → List ℤ → List
 adjusted_words e b words = cond (closes_on e b) (with_stations e b (b.legs + 1) words) words
 
 -- ---- the whole: the first step, then the second
-abbrev pub after_first : (ℕ → ℤ) → First → ToldTraverse
-after_first e (stopped n p) = refused_traverse n p
-after_first e (good b) = adjusted_traverse e b
+abbrev pub after_first : (ℕ → ℤ) → Result Balanced Refused → ToldTraverse
+after_first e (Err r) = refused_traverse (number_of r.refusal) r.place
+after_first e (Ok b) = adjusted_traverse e b
 
 unfoldable pub traversed_by : (ℕ → ℤ) → List ℕ → ℕ → ToldTraverse
 traversed_by e tape room = after_first e (first_for tape room)
 
-abbrev pub words_after_first : (ℕ → ℤ) → First → List ℤ → List ℤ
-words_after_first e (stopped n p) words = words
-words_after_first e (good b) words = adjusted_words e b words
+abbrev pub words_after_first : (ℕ → ℤ) → Result Balanced Refused → List ℤ → List ℤ
+words_after_first e (Err r) words = words
+words_after_first e (Ok b) words = adjusted_words e b words
 
 unfoldable pub traversed_words_by : (ℕ → ℤ) → List ℕ → List ℤ → List ℤ
 traversed_words_by e tape words = words_after_first e (first_for tape (length words)) words

@@ -1,52 +1,45 @@
 -- docs/RULES.md, "Definitions that state no rule": what the private functions promise one another,
--- which is the ranges of a balanced traverse, what the sums hold at a station, and when an answer
--- can be shown. The public promises do not mention any of it.
+-- which is the ranges of a balanced traverse and what the sums hold at a station. The public
+-- promises do not mention any of it.
 use Rattle.std.specs.Prelude.{ℕ, zero, suc, ◌+◌, ◌*◌, ◌^◌, ◌≤◌, ◌<◌, ◌≡◌, true, cond, ◌&&◌, List}
-use Rattle.std.specs.Prelude.{[], ◌∷◌, ◌++◌, length, get_or, set, ℤ, pos, neg_ℤ, nat_abs, ◌+ℤ◌}
-use Rattle.std.specs.Prelude.{◌-ℤ◌}
+use Rattle.std.specs.Prelude.{[], ◌∷◌, ◌++◌, length, get_or, set, map, replicate}
+use Rattle.std.specs.Prelude.{ℤ, pos, neg_ℤ, nat_abs, ◌+ℤ◌}
+use Rattle.std.specs.Prelude.{◌-ℤ◌, Result, Ok, Err}
 use Rattle.std.specs.Int.Signed.{le_z}
 use Rattle.answer.specs.Limit.{most_legs, lowest, highest, least_factor, most_factor}
 use Rattle.answer.specs.Limit.{least_distance, most_distance, most_coordinate}
+use Rattle.answer.specs.declared.Refused.{Refused}
 use Rattle.minutes.specs.Quadrant.{circle}
-use Rattle.steps.specs.Area.{most_offset, doubled, good_offsets}
+use Rattle.steps.specs.Area.{doubled, good_offsets}
 use Rattle.steps.specs.Course.{Axis, north, east, course}
 use Rattle.steps.specs.Azimuth.{balanced}
 use Rattle.steps.specs.Closure.{most_closure, most_sum, precision}
 use Rattle.steps.specs.Distance.{least_combined, most_combined, grid, sea_level, combine}
 use Rattle.steps.specs.Share.{share}
 use Rattle.whole.specs.Filled.{filled}
-use Rattle.desk.specs.Angles.{angle_at, distance_at, Balanced}
-use Rattle.desk.specs.Answer.{most_stations, station_words, told_traverse, First, stopped, good}
-use Rattle.desk.specs.Answer.{north_closure, east_closure, distance_run}
+use Rattle.desk.specs.Angles.{angle_at, distance_at, turns_of, Balanced}
+use Rattle.desk.specs.Answer.{station_words}
 use Rattle.desk.specs.Line.{run, preliminary}
-use Rattle.desk.specs.Sheet.{text_of}
-use Rattle.desk.specs.Traverse.{along, long_of, azimuth_of, line, word_index, same}
+use Rattle.desk.specs.Traverse.{along, long_of, azimuth_of, line, same}
+use Rattle.desk.specs.Turns.{carried}
 use Rattle.tape.specs.Fields.{Fields, fields_of, AllBytes, DoesRead, control_of}
 use Rattle.tape.specs.declared.Point.{Point}
 use Rattle.whole.specs.declared.Whole.{Whole}
-use Rattle.desk.specs.declared.Answer.{Answer}
-use Rattle.desk.specs.declared.Answer.TheVariants as answer
 use Rattle.desk.specs.declared.Frame.{Frame}
-use Rattle.desk.specs.declared.Checked.{Checked}
-use Rattle.desk.specs.declared.Checked.TheVariants as checked
+use Rattle.desk.specs.declared.Leg.{Leg}
 use Rattle.tape.specs.declared.Control.{Control}
 use Rattle.desk.specs.declared.Figures.{Figures}
 use Rattle.desk.specs.declared.Sums.{Sums}
 use Rattle.desk.specs.declared.Closure.{Closure}
-use Rattle.desk.specs.declared.area.Offsets.{Offsets}
+use Rattle.desk.specs.declared.vector.Vector.{Vector}
 
 -- the longest grid distance: the longest measured one by the largest combined factor, which is
 -- 20,000,000 x 10,020,010 / 10,000,000
 abbrev pub longest_leg : ℕ
 longest_leg = 20040020
 
--- the most that a leg moves along an axis, in hundredths of a foot: as far as the longest grid
--- distance of the step, 20,100,000 thousandths
-abbrev pub most_move : ℕ
-most_move = 2010000
-
--- the sums along the legs stay below this size. The rules keep them far smaller; below 2 ^ 40 one
--- can be added to another, or taken from it, within 64 bits
+-- the sums along the legs are not above this size. The rules keep them far smaller; up to 2 ^ 40
+-- one can be added to another, or taken from it, within 64 bits
 abbrev pub sum_bound : ℕ
 sum_bound = 2 ^ 40
 
@@ -75,37 +68,58 @@ frame_of c angles w =
       place = c.place;
     }
 
-abbrev pub with_legs : Frame → List ℕ → List ℕ → Balanced
-with_legs b azimuths distances =
+abbrev pub with_legs : Frame → List Leg → Balanced
+with_legs b legs =
     record {
       legs = b.legs;
       angles = b.angles;
       w = b.w;
-      azimuths = azimuths;
-      distances = distances;
+      azimuths = map (λ (x : Leg). x.azimuth) legs;
+      distances = map (λ (x : Leg). x.distance) legs;
       factor = b.factor;
       from = b.from;
       to = b.to;
       place = b.place;
     }
 
--- what the first step has found, the legs in two lists
-abbrev pub checked_as : Checked → List ℕ → List ℕ → First
-checked_as (checked.Refused n p) azimuths distances = stopped n p
-checked_as (checked.Good b) azimuths distances = good (with_legs b azimuths distances)
+-- what the first step has found, the legs in a list
+abbrev pub checked_as : Result Frame Refused → List Leg → Result Balanced Refused
+checked_as (Err r) legs = Err r
+checked_as (Ok b) legs = Ok (with_legs b legs)
 
--- a list that has an azimuth for each leg
-pub record AllTurned (legs : ℕ) (azimuths : List ℕ) : Type 0 where
-  pub room : legs ≤ length azimuths
-  pub each : (k : ℕ) → k < legs → get_or azimuths k 0 < circle
+-- what a list of legs has where no leg stands, the list of none, and leg k of a list
+abbrev pub no_leg : Leg
+no_leg = record { azimuth = 0; distance = 0 }
 
--- the balanced azimuth of leg k, the carried ones in a list: `ahead` angles stand before leg 1, and
--- `angles` share W; and the list with its first k azimuths balanced
-abbrev pub balanced_by : ℤ → ℕ → ℕ → List ℕ → ℕ → ℕ
-balanced_by w ahead angles azimuths k = balanced (get_or azimuths k 0) (share w (k + ahead) angles)
+abbrev pub no_legs : List Leg
+no_legs = replicate most_legs no_leg
 
-abbrev pub balanced_in : ℤ → ℕ → ℕ → ℕ → List ℕ → List ℕ
-balanced_in w ahead angles k azimuths = filled (balanced_by w ahead angles azimuths) k azimuths
+abbrev pub leg_at : List Leg → ℕ → Leg
+leg_at legs k = get_or legs k no_leg
+
+-- leg k of two sequences, and of the fields of a tape, before its azimuth is balanced
+abbrev pub leg_by : (ℕ → ℕ) → (ℕ → ℕ) → ℕ → Leg
+leg_by azimuth distance k = record { azimuth = azimuth k; distance = distance k }
+
+abbrev pub carried_leg : Fields → ℕ → Leg
+carried_leg f = leg_by (carried (turns_of f)) (distance_at f)
+
+-- a list whose first n legs have azimuths
+pub record AllTurned (n : ℕ) (legs : List Leg) : Type 0 where
+  pub room : n ≤ length legs
+  pub each : (k : ℕ) → k < n → (leg_at legs k).azimuth < circle
+
+-- leg k of a list, its azimuth balanced: `ahead` angles stand before leg 1, and `angles` share W;
+-- and the list with its first n legs balanced
+abbrev pub balanced_leg : ℤ → ℕ → ℕ → List Leg → ℕ → Leg
+balanced_leg w ahead angles legs k =
+    record {
+      azimuth = balanced (leg_at legs k).azimuth (share w (k + ahead) angles);
+      distance = (leg_at legs k).distance;
+    }
+
+abbrev pub balanced_in : ℤ → ℕ → ℕ → ℕ → List Leg → List Leg
+balanced_in w ahead angles n legs = filled (balanced_leg w ahead angles legs) n legs
 
 -- "n+1 angles" for 1 to 64 legs, so 2 to 65 of them share W, and each leg is at one of them
 pub record Shareable (legs ahead angles : ℕ) : Type 0 where
@@ -145,127 +159,114 @@ pub record Sound (b : Balanced) : Type 0 where
   pub from : (axis : Axis) → along axis b.from ≤ most_coordinate
   pub to : (axis : Axis) → along axis b.to ≤ most_coordinate
 
--- what is summed before the first leg
-pub record Begun (from : Point) (s : Sums) : Type 0 where
-  pub north : s.north.v ≡ pos from.north
-  pub east : s.east.v ≡ pos from.east
-  pub run : s.run ≡ 0
+-- ---- vectors: of two whole numbers, of a point, the sum of two, and one less another
+abbrev pub vector : ℤ → ℤ → Vector
+vector n e = record { north = record { v = n }; east = record { v = e } }
 
--- a move of one leg
-abbrev pub Slight : ℤ → Type 0
-Slight z = nat_abs z ≤ most_move
+abbrev pub of_point : Point → Vector
+of_point p = vector (pos p.north) (pos p.east)
 
--- r is s, one leg on, whose distance and moves are these
-pub record Added (s : Sums) (long : ℕ) (n e : ℤ) (r : Sums) : Type 0 where
-  pub north : r.north.v ≡ s.north.v +ℤ n
-  pub east : r.east.v ≡ s.east.v +ℤ e
-  pub run : r.run ≡ s.run + long
+abbrev pub sum_of : Vector → Vector → Vector
+sum_of x y = vector (x.north.v +ℤ y.north.v) (x.east.v +ℤ y.east.v)
 
--- r is s, one leg on, by the entries e of a table of sines
-abbrev pub Advanced : (ℕ → ℤ) → Sums → ℕ → ℕ → ℕ → Sums → Type 0
-Advanced e s factor distance azimuth r =
-    let long = grid distance factor in
-    Added s long (course e north long azimuth) (course e east long azimuth) r
+abbrev pub less : Vector → Vector → Vector
+less x y = vector (x.north.v -ℤ y.north.v) (x.east.v -ℤ y.east.v)
+
+-- neither part of a vector is above this size
+pub record Bounded (most : ℕ) (x : Vector) : Type 0 where
+  pub north : nat_abs x.north.v ≤ most
+  pub east : nat_abs x.east.v ≤ most
+
+-- ---- what is summed: before the first leg, after one leg more, and at station k, by the entries e
+-- of a table of sines
+abbrev pub begun : Point → Sums
+begun from = record { at = of_point from; run = 0 }
+
+abbrev pub advanced : (ℕ → ℤ) → ℕ → Leg → Sums → Sums
+advanced e factor leg s =
+    let long = grid leg.distance factor in
+    record {
+      at = sum_of s.at (vector (course e north long leg.azimuth) (course e east long leg.azimuth));
+      run = s.run + long;
+    }
+
+abbrev pub sums_at : (ℕ → ℤ) → Balanced → ℕ → Sums
+sums_at e b k =
+    record {
+      at = vector (preliminary (line e north b) k) (preliminary (line e east b) k);
+      run = run (long_of b) k;
+    }
 
 -- sums that leave room for a leg more
 pub record RoomForLeg (s : Sums) : Type 0 where
-  pub north : nat_abs s.north.v < sum_bound
-  pub east : nat_abs s.east.v < sum_bound
-  pub run : s.run < sum_bound
+  pub at : Bounded sum_bound s.at
+  pub run : s.run ≤ sum_bound
 
--- s holds what is summed at station k: both preliminary coordinates and the distance run
-pub record Stands (e : ℕ → ℤ) (b : Balanced) (k : ℕ) (s : Sums) : Type 0 where
-  pub north : s.north.v ≡ preliminary (line e north b) k
-  pub east : s.east.v ≡ preliminary (line e east b) k
-  pub run : s.run ≡ run (long_of b) k
+-- what is kept of station k in a list, and the list in which the sums of stations 0 to n are kept
+abbrev pub kept_at : List Sums → ℕ → Sums
+kept_at kept k = get_or kept k (record { at = vector (pos 0) (pos 0); run = 0 })
 
--- a word of a list
-abbrev pub word_at : List ℤ → ℕ → ℤ
-word_at words i = get_or words i (pos 0)
+abbrev pub kept_to : (ℕ → ℤ) → Balanced → List Sums → List Sums
+kept_to e b kept = filled (sums_at e b) (b.legs + 1) kept
 
--- the lists hold what is summed at the stations up to n: northing, then easting, of each, and the
--- distance run
-pub record Ran (e : ℕ → ℤ) (b : Balanced) (n : ℕ) (spots : List ℤ) (runs : List ℕ) : Type 0 where
-  pub spot : (axis : Axis) (k : ℕ)
-      → k ≤ n
-      → word_at spots (word_index axis k) ≡ preliminary (line e axis b) k
-  pub run : (k : ℕ) → k ≤ n → get_or runs k 0 ≡ run (long_of b) k
+-- ---- the closure of sums at the end of the line, which is they less the fixed end, and that of a
+-- traverse
+abbrev pub left : Point → Sums → Closure
+left to end = record { at = less end.at (of_point to); distance = end.run }
 
--- c is the closure of sums at the end of the line: they less the fixed end, and the distance run
-pub record Left (to : Point) (end : Sums) (c : Closure) : Type 0 where
-  pub north : c.north.v ≡ end.north.v -ℤ pos to.north
-  pub east : c.east.v ≡ end.east.v -ℤ pos to.east
-  pub distance : c.distance ≡ end.run
+abbrev pub closed : (ℕ → ℤ) → Balanced → Closure
+closed e b = left b.to (sums_at e b b.legs)
 
--- c is the closure of a traverse, by the entries e: both closures, and the whole distance
-pub record Closed (e : ℕ → ℤ) (b : Balanced) (c : Closure) : Type 0 where
-  pub north : c.north.v ≡ north_closure e b
-  pub east : c.east.v ≡ east_closure e b
-  pub distance : c.distance ≡ distance_run b
-
--- the end of the run along a traverse in range, by the entries e: what is kept of every station,
--- and the closures
-pub record Ended (e : ℕ → ℤ) (b : Balanced) (spots : List ℤ) (runs : List ℕ) (c : Closure)
-    : Type 0 where
-  pub sound : Sound b
-  pub room : station_words ≤ length spots
-  pub room_run : most_stations ≤ length runs
-  pub ran : Ran e b b.legs spots runs
-  pub closed : Closed e b c
-
--- closures and distance run, within the limit and within the ranges of the share rule
+-- a closure within the limit and within the ranges of the share rule
 pub record Near (c : Closure) : Type 0 where
-  pub north : nat_abs c.north.v ≤ most_closure
-  pub east : nat_abs c.east.v ≤ most_closure
+  pub at : Bounded most_closure c.at
   pub far : 1 ≤ c.distance
   pub most : c.distance ≤ most_sum
 
--- stations 0 to n whose shares of these closures can be taken
-pub record Shared (n : ℕ) (spots : List ℤ) (runs : List ℕ) (c : Closure) : Type 0 where
+-- the share of a closure at a station, so far along the line
+abbrev pub share_of : Closure → ℕ → Vector
+share_of c run = vector (share c.at.north.v run c.distance) (share c.at.east.v run c.distance)
+
+-- a station whose share of this closure can be taken, and stations 0 to n of which each is one
+pub record Part (s : Sums) (c : Closure) : Type 0 where
+  pub at : Bounded sum_bound s.at
+  pub run : s.run ≤ c.distance
+
+pub record Shared (n : ℕ) (kept : List Sums) (c : Closure) : Type 0 where
   pub few : n ≤ most_legs
-  pub room : station_words ≤ length spots
-  pub room_run : most_stations ≤ length runs
-  pub north : (k : ℕ) → k ≤ n → nat_abs (word_at spots (2 * k)) < sum_bound
-  pub east : (k : ℕ) → k ≤ n → nat_abs (word_at spots (2 * k + 1)) < sum_bound
-  pub part : (k : ℕ) → k ≤ n → get_or runs k 0 ≤ c.distance
+  pub each : (k : ℕ) → k ≤ n → Part (kept_at kept k) c
 
--- the words with the first k stations put in, each less its share of the closures
-unfoldable pub put_to : List ℤ → List ℕ → Closure → ℕ → List ℤ → List ℤ
-put_to spots runs c zero words = words
-put_to spots runs c (suc k) words =
-    let r = get_or runs k 0 in
-    set
-    (set (put_to spots runs c k words) (2 * k)
-    (word_at spots (2 * k) -ℤ share c.north.v r c.distance))
-    (2 * k + 1)
-    (word_at spots (2 * k + 1) -ℤ share c.east.v r c.distance)
+-- ---- the words: station k of them; with station k put in; and with the first n stations, each
+-- less its share of the closure
+abbrev pub word_at : List ℤ → ℕ → ℤ
+word_at words i = get_or words i (pos 0)
 
--- the first k stations of the words, northing, then easting, taken from the first
+abbrev pub station_at : List ℤ → ℕ → Vector
+station_at words k = vector (word_at words (2 * k)) (word_at words (2 * k + 1))
+
+abbrev pub put_at : ℕ → Vector → List ℤ → List ℤ
+put_at k x words = set (set words (2 * k) x.north.v) (2 * k + 1) x.east.v
+
+unfoldable pub put_to : List Sums → Closure → ℕ → List ℤ → List ℤ
+put_to kept c zero words = words
+put_to kept c (suc n) words =
+    let s = kept_at kept n in put_at n (less s.at (share_of c s.run)) (put_to kept c n words)
+
+-- station k of the words taken from the first; the first n so taken, northing, then easting
+abbrev pub taken_at : List ℤ → ℕ → Vector
+taken_at words k = less (station_at words k) (station_at words 0)
+
 unfoldable pub taken_from : List ℤ → ℕ → List ℤ
 taken_from words zero = []
-taken_from words (suc k) =
-    taken_from words k
-    ++ ((word_at words (2 * k) -ℤ word_at words 0)
-    ∷ (word_at words (2 * k + 1) -ℤ word_at words 1)
-    ∷ [])
-
--- o is station k of the words, taken from the first
-pub record TakenAt (words : List ℤ) (k : ℕ) (o : Offsets) : Type 0 where
-  pub north : o.north.v ≡ word_at words (2 * k) -ℤ word_at words 0
-  pub east : o.east.v ≡ word_at words (2 * k + 1) -ℤ word_at words 1
-
--- offsets within the ranges of the area step
-pub record Ranged (o : Offsets) : Type 0 where
-  pub north : nat_abs o.north.v ≤ most_offset
-  pub east : nat_abs o.east.v ≤ most_offset
+taken_from words (suc n) =
+    taken_from words n ++ ((taken_at words n).north.v ∷ (taken_at words n).east.v ∷ [])
 
 -- words of n stations within the ranges of the area step
 pub record AreaRanged (n : ℕ) (words : List ℤ) : Type 0 where
   pub some : 1 ≤ n
   pub few : n ≤ most_legs
   pub room : station_words ≤ length words
-  pub north : (k : ℕ) → k < n → nat_abs (word_at words (2 * k)) < sum_bound
-  pub east : (k : ℕ) → k < n → nat_abs (word_at words (2 * k + 1)) < sum_bound
+  pub each : (k : ℕ) → k < n → Bounded sum_bound (station_at words k)
   pub near : good_offsets (taken_from words n) ≡ true
 
 -- the figures of a traverse whose closures and words are these
@@ -273,16 +274,9 @@ pub record Figured (b : Frame) (c : Closure) (words : List ℤ) (r : Figures) : 
   pub room : station_words ≤ length words
   pub legs : r.legs ≡ b.legs
   pub w : r.w ≡ b.w
-  pub north : r.north_closure ≡ c.north
-  pub east : r.east_closure ≡ c.east
-  pub precise : r.precision ≡ precision c.north.v c.east.v c.distance
+  pub north : r.north_closure ≡ c.at.north
+  pub east : r.east_closure ≡ c.at.east
+  pub precise : r.precision ≡ precision c.at.north.v c.at.east.v c.distance
   pub looped : r.looped ≡ same b.from b.to
   pub area : r.area.v
       ≡ cond (same b.from b.to) (doubled (taken_from words b.legs)) (pos 0)
-
--- an answer that can be shown in the lent bytes: no refusal has the number 0, an adjusted traverse
--- has few legs, and its text has room
-pub record Shows (x : Answer) (words : List ℤ) (out : List ℕ) : Type 0 where
-  pub some : (n p : ℕ) → x ≡ answer.Refused n p → n ≡ 0 → ⊥
-  pub few : (told_traverse x).number ≡ 0 → (told_traverse x).legs ≤ most_legs
-  pub room : (told_traverse x).number ≡ 0 → length (text_of (told_traverse x) words) ≤ length out

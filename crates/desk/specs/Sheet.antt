@@ -1,16 +1,15 @@
 -- docs/RULES.md, "The sheet, and one printed whole" and "Nine refusals": the text of an accepted
 -- tape, line by line, and what the sheet step answers and leaves in the lent bytes.
 use Rattle.std.specs.Prelude.{ℕ, zero, suc, ◌+◌, Bool, cond, List, [], ◌++◌, ◌≡◌, ltb, eqb, length}
-use Rattle.std.specs.Prelude.{get_or, drop, replicate, ℤ, pos}
-use Rattle.answer.specs.Refusal.{no_room}
+use Rattle.std.specs.Prelude.{get_or, drop, replicate, ℤ, pos, Result, Ok, Err}
+use Rattle.answer.specs.Refusal.{number_of, no_room}
+use Rattle.answer.specs.declared.Refused.{Refused}
 use Rattle.steps.specs.Course.{north, east}
 use Rattle.minutes.specs.Entry.{entry}
 use Rattle.desk.specs.Answer.{station_words, traversed_by, traversed_words_by}
 use Rattle.desk.specs.Answer.{ToldTraverse}
 use Rattle.desk.specs.Traverse.{word_index}
 use Rattle.text.specs.Text.{ascii, decimal, signed, plain}
-use Rattle.desk.specs.declared.Page.{Page}
-use Rattle.desk.specs.declared.Page.TheVariants.{Refused, Text}
 
 -- ---- the decimals of what is printed: seconds have one, feet two, square feet four
 abbrev pub second_decimals : ℕ
@@ -60,14 +59,32 @@ text_of t words =
     ++ station_lines words (t.legs + 1)
     ++ area_line t.area t.loop
 
+-- ---- what is told: number, place and the text's length
+pub record ToldSheet : Type 0 where
+  pub number : ℕ
+  pub place : ℕ
+  pub used : ℕ
+
+-- of a text of n bytes; and "a refusal returns number and place, every other number zero"
+abbrev pub text_page : ℕ → ToldSheet
+text_page n = record { number = 0; place = 0; used = n }
+
+abbrev pub refused_page : ℕ → ℕ → ToldSheet
+refused_page n p = record { number = n; place = p; used = 0 }
+
+abbrev pub told_sheet : Result ℕ Refused → ToldSheet
+told_sheet (Err r) = refused_page (number_of r.refusal) r.place
+told_sheet (Ok n) = text_page n
+
 -- ---- what is shown of a traverse: its refusal, or its text "from the first lent byte", which
 -- "changes nothing after it"
 abbrev pub over : List ℕ → List ℕ → List ℕ
 over bytes out = bytes ++ drop (length bytes) out
 
-unfoldable pub shown : ToldTraverse → List ℤ → Page
+unfoldable pub shown : ToldTraverse → List ℤ → ToldSheet
 shown t words =
-    cond (eqb t.number 0) (Text (length (text_of t words))) (Refused t.number t.place)
+    cond (eqb t.number 0) (text_page (length (text_of t words)))
+    (refused_page t.number t.place)
 
 unfoldable pub shown_bytes : ToldTraverse → List ℤ → List ℕ → List ℕ
 shown_bytes t words out = cond (eqb t.number 0) (over (text_of t words) out) out
@@ -88,29 +105,19 @@ answered e tape = traversed_by e tape station_words
 abbrev pub sheet_words : (ℕ → ℤ) → List ℕ → List ℤ
 sheet_words e tape = traversed_words_by e tape own_words
 
-unfoldable pub paged : (ℕ → ℤ) → List ℕ → ℕ → Page
+unfoldable pub paged : (ℕ → ℤ) → List ℕ → ℕ → ToldSheet
 paged e tape room =
-    cond (ltb room sheet_bytes) (Refused no_room 0) (shown (answered e tape) (sheet_words e tape))
+    cond (ltb room sheet_bytes) (refused_page no_room 0)
+    (shown (answered e tape) (sheet_words e tape))
 
 unfoldable pub paged_bytes : (ℕ → ℤ) → List ℕ → List ℕ → List ℕ
 paged_bytes e tape out =
     cond (ltb (length out) sheet_bytes) out (shown_bytes (answered e tape) (sheet_words e tape) out)
 
--- ---- what is told: number, place and the text's length
-pub record ToldSheet : Type 0 where
-  pub number : ℕ
-  pub place : ℕ
-  pub used : ℕ
-
-abbrev pub told_sheet : Page → ToldSheet
-told_sheet (Refused n p) = record { number = n; place = p; used = 0 }
-told_sheet (Text n) = record { number = 0; place = 0; used = n }
-
--- ---- what the sheet step owes: r is its answer, tells what the rules say, and out' is what it
--- leaves of out
-pub record Showed (e : ℕ → ℤ) (tape out out' : List ℕ) (r : Page) : Type 0 where
-  pub answer : r ≡ paged e tape (length out)
-  pub tells : told_sheet r ≡ told_sheet (paged e tape (length out))
+-- ---- what the sheet step owes: its answer r tells what the rules say, and out' is what it leaves
+-- of out
+pub record Showed (e : ℕ → ℤ) (tape out out' : List ℕ) (r : Result ℕ Refused) : Type 0 where
+  pub tells : told_sheet r ≡ paged e tape (length out)
   pub left : out' ≡ paged_bytes e tape out
 
 -- ---- what the program prints: the sheet, or "one line, as `REFUSED 8`"; nothing in bytes that

@@ -1,62 +1,21 @@
 // The doubled area of a loop, from the stations' words.
-ghost use Rattle.std.specs.Prelude.{◌≡◌, cond, ◌+◌, ◌*◌, ◌≤◌, ◌<◌, length, pos, nat_abs, ◌-ℤ◌};
-ghost use Rattle.std.specs.Prelude.{◌*ℤ◌};
-ghost use Rattle.steps.specs.Area.{most_offset, doubled};
-ghost use Rattle.desk.specs.Traverse.{same};
-ghost use Rattle.desk.specs.Inside.{sum_bound, word_at, taken_from, TakenAt, Ranged, AreaRanged};
+ghost use Rattle.std.specs.Prelude.{◌≡◌, cond, ◌+◌, ◌*◌, ◌<◌, length, pos};
+ghost use Rattle.steps.specs.Area.{doubled};
+ghost use Rattle.desk.specs.Inside.{sum_bound, Bounded, station_at, taken_at, taken_from};
+ghost use Rattle.desk.specs.Inside.{AreaRanged};
 
 use crate::coordinates;
-use tape::Point;
+use crate::vector::Vector;
 use whole::Whole;
 
-// The offsets of a station: how far north and east of the first it stands.
-#[derive(Clone, Copy)]
-struct Offsets {
-    north: Whole,
-    east: Whole,
-}
-
-// Whether the two fixed points are the same.
-pub fn is_loop(from: Point, to: Point) -> bool
-    ensures { result ≡ same from to }
-{
-    from.north == to.north && from.east == to.east
-}
-
-// A word, taken from another.
-fn apart(words: &[i64], at: usize, first: usize) -> Whole
-    requires at_in_bounds { (at < length words.now) × (first < length words.now) }
-    requires at_bound { (nat_abs (word_at words.now at) < sum_bound)
-        × (nat_abs (word_at words.now first) < sum_bound) }
-    ensures { result.v ≡ word_at words.now at -ℤ word_at words.now first }
-{
-    coordinates::word(words, at).minus(coordinates::word(words, first))
-}
-
 // Station k, taken from the first.
-fn offsets_at(words: &[i64], k: usize) -> Offsets
+fn from_first(words: &[i64], k: usize) -> Vector
     requires k_in_bounds { 2 * k + 1 < length words.now }
-    requires k_bound { (nat_abs (word_at words.now (2 * k)) < sum_bound)
-        × (nat_abs (word_at words.now 0) < sum_bound) }
-    requires k_bound_2 { (nat_abs (word_at words.now (2 * k + 1)) < sum_bound)
-        × (nat_abs (word_at words.now 1) < sum_bound) }
-    ensures { TakenAt words.now k result }
+    requires k_within { Bounded sum_bound (station_at words.now k) }
+    requires first_within { Bounded sum_bound (station_at words.now 0) }
+    ensures { result ≡ taken_at words.now k }
 {
-    let north = apart(words, 2 * k, 0);
-    let east = apart(words, 2 * k + 1, 1);
-    Offsets { north, east }
-}
-
-// Twice the area of the triangle that two stations make with the first.
-fn cross(here: Offsets, there: Offsets) -> Whole
-    requires { Ranged here × Ranged there }
-    ensures is { result.v
-        ≡ here.north.v *ℤ there.east.v -ℤ there.north.v *ℤ here.east.v }
-    ensures size { nat_abs result.v ≤ 2 * most_offset * most_offset }
-{
-    here.north
-        .times(there.east)
-        .minus(there.north.times(here.east))
+    coordinates::station(words, k).minus(coordinates::station(words, 0))
 }
 
 // The sum round n stations. The first station makes no triangle with itself, so the sum ends at the
@@ -66,13 +25,11 @@ fn round(words: &[i64], n: usize) -> Whole
     ensures { result.v ≡ doubled (taken_from words.now n) }
 {
     let mut sum = Whole { v: 0 };
-    let mut here = offsets_at(words, 0);
-    let mut i: usize = 0;
-    while i + 1 < n {
-        let there = offsets_at(words, i + 1);
-        sum = sum.plus(cross(here, there));
+    let mut here = from_first(words, 0);
+    for k in 1..n {
+        let there = from_first(words, k);
+        sum = sum.plus(here.cross(there));
         here = there;
-        i = i + 1;
     }
     sum
 }

@@ -1,112 +1,105 @@
-// The closure at the end of the run, and the adjusted coordinates of the stations into the lent
-// words.
-ghost use Rattle.std.specs.Prelude.{◌≡◌, ◌+◌, ◌*◌, ◌≤◌, ◌<◌, length, get_or, set, nat_abs, ◌-ℤ◌};
+// The closure at the end of the run, and the adjusted coordinates of the stations in the lent
+// words: of each station its northing, then its easting.
+ghost use Rattle.std.specs.Prelude.{◌≡◌, ◌+◌, ◌*◌, ◌≤◌, ◌<◌, length, nat_abs};
 ghost use Rattle.steps.specs.Closure.{most_tested, most_closure, most_sum, closes, precision};
 ghost use Rattle.steps.specs.Share.{share};
 ghost use Rattle.desk.specs.Answer.{station_words};
-ghost use Rattle.desk.specs.Inside.{sum_bound, RoomForLeg, Left, Near, Shared, put_to, word_at};
+ghost use Rattle.desk.specs.Inside.{Bounded, RoomForLeg, Near, Shared, left, share_of, put_at};
+ghost use Rattle.desk.specs.Inside.{put_to, station_at};
 
-use crate::{Closure, Sums};
+use crate::vector::Vector;
+use crate::{Closure, MOST_STATIONS, Sums};
 use tape::Point;
 use whole::Whole;
 
 // The closure: the sums at the end of the line less the fixed end.
 pub fn closing(to: Point, end: Sums) -> Closure
     requires { RoomForLeg end }
-    ensures { Left to end result }
+    ensures { result ≡ left to end }
 {
-    let north = end.north.minus(Whole::of_size(to.north as u64));
-    let east = end.east.minus(Whole::of_size(to.east as u64));
     Closure {
-        north,
-        east,
+        at: end.at.minus(Vector::from(to)),
         distance: end.run,
     }
 }
 
-// Whether the closures are within the limit.
-pub fn within_limit(c: Closure) -> bool
-    requires v_bound { (nat_abs c.north.v ≤ most_tested) × (nat_abs c.east.v ≤ most_tested) }
-    requires le_distance { (1 ≤ c.distance) × (c.distance ≤ most_sum) }
-    ensures { result ≡ closes c.north.v c.east.v c.distance }
-{
-    steps::closure::closes(c.north, c.east, c.distance).value()
-}
+// Kept: `Near` stands in four contracts. A closure has it once it has passed `within_limit`, and is
+// used in one place after that: a type of such closures would be made and taken apart there.
+impl Closure {
+    // Whether the closure is within the limit.
+    pub(crate) fn within_limit(self) -> bool
+        requires at_within { Bounded most_tested self.at }
+        requires le_distance { (1 ≤ self.distance) × (self.distance ≤ most_sum) }
+        ensures { result ≡ closes self.at.north.v self.at.east.v self.distance }
+    {
+        steps::closure::closes(self.at.north, self.at.east, self.distance).unwrap()
+    }
 
-// The precision number of closures within the limit.
-pub fn precision_of(c: Closure) -> u64
-    requires { Near c }
-    ensures { result ≡ precision c.north.v c.east.v c.distance }
-{
-    steps::closure::precision(c.north, c.east, c.distance).value()
-}
+    // The precision number of a closure within the limit.
+    pub(crate) fn precision(self) -> u64
+        requires { Near self }
+        ensures { result ≡ precision self.at.north.v self.at.east.v self.distance }
+    {
+        steps::closure::precision(self.at.north, self.at.east, self.distance).unwrap()
+    }
 
-// A preliminary coordinate less its share of the closure.
-fn adjust(coordinate: Whole, closure: Whole, part: u64, all: u64) -> Whole
-    requires v_bound { nat_abs coordinate.v < sum_bound }
-    requires v_bound_2 { nat_abs closure.v ≤ most_closure }
-    requires part_le_all { (part ≤ all) × (1 ≤ all) × (all ≤ most_sum) }
-    ensures { result.v ≡ coordinate.v -ℤ share closure.v part all }
-{
-    coordinate.minus(steps::share::share(closure, part, all).value())
-}
-
-pub fn put(words: &mut [i64], at: usize, z: Whole)
-    requires { at < length words.old }
-    ensures { words.new ≡ set words.old at z.v }
-{
-    let v = z.v;
-    words[at] = v;
-}
-
-pub fn word(words: &[i64], at: usize) -> Whole
-    requires { at < length words.now }
-    ensures { result.v ≡ word_at words.now at }
-{
-    Whole { v: words[at] }
-}
-
-// What is summed at station k, read back from where the run along the legs kept it.
-fn kept(spots: &[i64], runs: &[u64], k: usize) -> Sums
-    requires { (2 * k + 1 < length spots.now) × (k < length runs.now) }
-    ensures north { result.north.v ≡ word_at spots.now (2 * k) }
-    ensures east { result.east.v ≡ word_at spots.now (2 * k + 1) }
-    ensures run { result.run ≡ get_or runs.now k 0 }
-{
-    Sums {
-        north: word(spots, 2 * k),
-        east: word(spots, 2 * k + 1),
-        run: runs[k],
+    // What a station is given of the closure, so far along the line.
+    fn share(self, run: u64) -> Vector
+        requires near { Near self }
+        requires run_le_distance { run ≤ self.distance }
+        ensures is { result ≡ share_of self run }
+        ensures size { Bounded most_closure result }
+    {
+        Vector {
+            north: part_of(self.at.north, run, self.distance),
+            east: part_of(self.at.east, run, self.distance),
+        }
     }
 }
 
-// Station k, at which s is summed: northing, then easting, each less its share.
-fn put_station(words: &mut [i64], k: usize, s: Sums, c: Closure)
-    requires k_in_bounds { 2 * k + 1 < length words.old }
-    requires v_bound { (nat_abs s.north.v < sum_bound) × (nat_abs s.east.v < sum_bound) }
-    requires near { Near c }
-    requires run_le_distance { s.run ≤ c.distance }
-    ensures { words.new
-        ≡ set
-        (set words.old (2 * k)
-        (s.north.v -ℤ share c.north.v s.run c.distance))
-        (2 * k + 1) (s.east.v -ℤ share c.east.v s.run c.distance) }
+// The share of a closure along one axis.
+fn part_of(closure: Whole, part: u64, all: u64) -> Whole
+    requires v_bound { nat_abs closure.v ≤ most_closure }
+    requires part_le_all { (part ≤ all) × (1 ≤ all) × (all ≤ most_sum) }
+    ensures is { result.v ≡ share closure.v part all }
+    ensures size { nat_abs result.v ≤ most_closure }
 {
-    put(words, 2 * k, adjust(s.north, c.north, s.run, c.distance));
-    put(words, 2 * k + 1, adjust(s.east, c.east, s.run, c.distance));
+    steps::share::share(closure, part, all).unwrap()
 }
 
-// Stations 0 to n from what was kept of them, the closures and the whole distance known.
-pub fn put_all(n: usize, spots: &[i64], runs: &[u64], c: Closure, words: &mut [i64])
-    requires shared { Shared n spots.now runs.now c }
+// The coordinates of station k, into the lent words.
+fn put(words: &mut [i64], k: usize, station: Vector)
+    requires { 2 * k + 1 < length words.old }
+    ensures { words.new ≡ put_at k station words.old }
+{
+    words[2 * k] = station.north.v;
+    words[2 * k + 1] = station.east.v;
+}
+
+// The coordinates of station k, from the words.
+pub fn station(words: &[i64], k: usize) -> Vector
+    requires { 2 * k + 1 < length words.now }
+    ensures { result ≡ station_at words.now k }
+{
+    Vector {
+        north: Whole { v: words[2 * k] },
+        east: Whole {
+            v: words[2 * k + 1],
+        },
+    }
+}
+
+// Stations 0 to n, each less its share of the closure, from what was kept of them.
+//
+// Kept: that the words have room stands in four contracts. They are a caller's `&mut [i64]`, a form
+// that the rules name, and it may be longer than 130.
+pub fn put_all(n: usize, kept: &[Sums; MOST_STATIONS], c: Closure, words: &mut [i64])
+    requires shared { Shared n kept.now c }
     requires near { Near c }
     requires station_words_in_bounds { station_words ≤ length words.old }
-    ensures { words.new
-        ≡ put_to spots.now runs.now c (n + 1) words.old }
+    ensures { words.new ≡ put_to kept.now c (n + 1) words.old }
 {
-    let mut k: usize = 0;
-    while k <= n {
-        put_station(words, k, kept(spots, runs, k), c);
-        k = k + 1;
+    for (k, s) in kept[..n + 1].iter().enumerate() {
+        put(words, k, s.at.minus(c.share(s.run)));
     }
 }

@@ -12,7 +12,7 @@ fn sea_level(elevation: Whole) -> u64
     ensures is { result ≡ sea_level elevation.v }
     ensures size { (least_factor ≤ result) × (result ≤ most_factor) }
 {
-    steps::distance::sea_level(elevation).value()
+    steps::distance::sea_level(elevation).unwrap()
 }
 
 pub fn combined(elevation: Whole, scale: u32) -> u32
@@ -22,5 +22,5 @@ pub fn combined(elevation: Whole, scale: u32) -> u32
     requires least_factor_le_scale { (least_factor ≤ scale) × (scale ≤ most_factor) }
     ensures { result ≡ combine (sea_level elevation.v) scale }
 {
-    steps::distance::combine(sea_level(elevation), scale as u64).value() as u32
+    steps::distance::combine(sea_level(elevation), scale as u64).unwrap() as u32
 }

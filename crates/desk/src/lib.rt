@@ -2,20 +2,22 @@
 // balances the angles, the second closes and adjusts.
 #![tactic(auto)]
 
-ghost use Rattle.std.specs.Prelude.{◌≡◌, ◌≤◌, length};
+ghost use Rattle.std.specs.Prelude.{◌≡◌, ◌≤◌, ◌<◌, length, MatchResult};
+ghost use Rattle.answer.specs.declared.Refusal.TheVariants.{NoRoom};
 ghost use Rattle.tape.specs.Fields.{fields_of};
 ghost use Rattle.desk.specs.Answer.{station_words, told_traverse, checked_angles};
 ghost use Rattle.desk.specs.Answer.{after_first, traversed, traversed_by};
 ghost use Rattle.desk.specs.Answer.{words_after_first, traversed_words, traversed_words_by};
-ghost use Rattle.desk.specs.Inside.{Known, Shows};
-ghost use Rattle.desk.specs.Sheet.{sheet_bytes, shown, shown_bytes, over, Showed, printed_in};
+ghost use Rattle.desk.specs.Inside.{Known};
+ghost use Rattle.desk.specs.Sheet.{sheet_bytes, over, Showed, printed_in};
 ghost use Rattle.minutes.specs.Entry.{entry};
 ghost use Rattle.sines.specs.Sine.{entry_in};
 
 use answer::limit::MOST_LEGS;
-use answer::refusal::{BAD_ANGLES, NO_ROOM};
+use answer::{Refusal, Refused};
 use minutes::ENTRIES;
-use tape::{Control, Point, Taken};
+use tape::{Control, Point};
+use vector::Vector;
 use whole::Whole;
 
 // "stations 0 to n": one more than there are legs. specs/Answer.antt has the same name.
@@ -30,9 +32,9 @@ pub const SHEET_BYTES: usize = 4_096;
 
 // A traverse whose angles are balanced, but for its legs: how many legs it has, how many angles
 // share W, the misclosure W, the combined factor, the two fixed points, and the place of the close.
-// The balanced azimuth and the measured distance of each leg stand in two lists beside it. No
-// latitude, departure or coordinate of a station stands in it.
-#[derive(Clone, Copy)]
+// The legs stand in a list beside it. No latitude, departure or coordinate of a station stands in
+// it.
+#[derive(Clone, Copy, Debug, PartialEq, Eq)]
 pub struct Frame {
     pub legs: usize,
     pub angles: usize,
@@ -43,33 +45,53 @@ pub struct Frame {
     pub place: usize,
 }
 
-// What the first step answers: a refusal, or that the angles close.
-#[derive(Clone, Copy)]
-pub enum Checked {
-    Refused { number: u32, place: usize },
-    Good(Frame),
+// A leg: its azimuth, which is the carried one until it is balanced, and its measured distance.
+#[derive(Clone, Copy, Debug, PartialEq, Eq)]
+pub struct Leg {
+    pub azimuth: u32,
+    pub distance: u32,
+}
+
+impl Leg {
+    // What a list of legs has where no leg stands.
+    const NONE: Leg = Leg {
+        azimuth: 0,
+        distance: 0,
+    };
 }
 
 // What is summed along the legs up to a station: the preliminary coordinates and the distance run.
-#[derive(Clone, Copy)]
+#[derive(Clone, Copy, Debug, PartialEq, Eq)]
 pub struct Sums {
-    pub north: Whole,
-    pub east: Whole,
+    pub at: Vector,
     pub run: u64,
 }
 
-// The closure of a traverse: how far north and how far east of the fixed end its preliminary end
-// lies, and the distance run over all legs, which is S.
-#[derive(Clone, Copy)]
+impl Sums {
+    // What a list of stations has where none is reached yet.
+    const NONE: Sums = Sums {
+        at: Vector {
+            north: Whole { v: 0 },
+            east: Whole { v: 0 },
+        },
+        run: 0,
+    };
+}
+
+// The closure of a traverse: where its preliminary end lies, from the fixed end, and the distance
+// run over all legs, which is S.
+#[derive(Clone, Copy, Debug, PartialEq, Eq)]
 pub struct Closure {
-    pub north: Whole,
-    pub east: Whole,
+    pub at: Vector,
     pub distance: u64,
 }
 
 // The figures of an adjusted traverse: n, W, both closures, the precision number, the doubled area
 // and whether it is a loop.
-#[derive(Clone, Copy)]
+//
+// Kept: area and mark by themselves, since both are told, 0 and no loop, to C and in `cases`. Each
+// of these would take an Option apart into both again.
+#[derive(Clone, Copy, Debug, PartialEq, Eq)]
 pub struct Figures {
     pub legs: usize,
     pub w: Whole,
@@ -80,20 +102,6 @@ pub struct Figures {
     pub looped: bool,
 }
 
-// What a traverse is answered with.
-#[derive(Clone, Copy)]
-pub enum Answer {
-    Refused { number: u32, place: usize },
-    Adjusted(Figures),
-}
-
-// What the sheet step answers: a refusal, or the length of the text.
-#[derive(Clone, Copy)]
-pub enum Page {
-    Refused { number: u32, place: usize },
-    Text(usize),
-}
-
 mod adjusting;
 mod angles;
 mod area;
@@ -102,10 +110,35 @@ mod coordinates;
 mod factor;
 mod legs;
 mod lines;
+mod vector;
+
+// "Refusal 1 is tested first": what was lent is long enough.
+fn has_room(lent: usize, wanted: usize) -> Result<(), Refused>
+    ensures { MatchResult result (λ _. wanted ≤ lent)
+        (λ r. (lent < wanted) × (r ≡ record { refusal = NoRoom; place = 0 })) }
+{
+    if lent < wanted {
+        return Err(Refused {
+            refusal: Refusal::NoRoom,
+            place: 0,
+        });
+    }
+    Ok(())
+}
 
 // A tape that reads, by the sines of a lent table: its angles are checked and balanced, then it is
 // closed and adjusted.
-fn work_in(table: &[u32; ENTRIES], tape: &[u8], c: Control, words: &mut [i64]) -> Answer
+//
+// Kept: a tape and what is taken of it go together through four functions, of which each asks for
+// `Known`. One struct of both with that fact in it was tried. Since it holds a reference, clauses
+// name `taken.entry.tape.now` in place of `tape.now`, and its maker has a contract of its own: more
+// is written than saved.
+fn work(
+    table: &[u32; ENTRIES],
+    tape: &[u8],
+    c: Control,
+    words: &mut [i64],
+) -> Result<Figures, Refused>
     requires known { Known tape.now c }
     requires station_words_in_bounds { station_words ≤ length words.old }
     ensures answer { told_traverse result
@@ -116,39 +149,18 @@ fn work_in(table: &[u32; ENTRIES], tape: &[u8], c: Control, words: &mut [i64]) -
         (checked_angles (fields_of tape.now))
         words.old }
 {
-    let mut azimuths = [0u32; MOST_LEGS];
-    let mut distances = [0u32; MOST_LEGS];
-    let checked = checking::check_angles(tape, c, &mut azimuths, &mut distances);
-    match checked {
-        Checked::Refused { number, place } => Answer::Refused { number, place },
-        Checked::Good(b) => adjusting::settle(table, b, &azimuths, &distances, words),
-    }
-}
-
-// A tape that reads, by the desk's own table, which is laid out where the angles close: all that
-// needs no sine is tested by then.
-fn work(tape: &[u8], c: Control, words: &mut [i64]) -> Answer
-    requires known { Known tape.now c }
-    requires station_words_in_bounds { station_words ≤ length words.old }
-    ensures answer { told_traverse result
-        ≡ after_first entry (checked_angles (fields_of tape.now)) }
-    ensures words { words.new
-        ≡ words_after_first entry (checked_angles (fields_of tape.now))
-        words.old }
-{
-    if checking::angles_stand(tape, c) {
-        return work_in(&minutes::table(), tape, c, words);
-    }
-    Answer::Refused {
-        number: BAD_ANGLES,
-        place: c.place,
-    }
+    let mut legs = [Leg::NONE; MOST_LEGS];
+    let b = checking::check_angles(tape, c, &mut legs)?;
+    adjusting::settle(table, b, &legs, words)
 }
 
 // The traverse by the sines of a lent table, whatever it holds: a tape in, an adjusted traverse
-// out. No word is written on a refusal. A caller that works many tapes takes the desk's table once
-// and lends it.
-pub fn traverse_in(table: &[u32; ENTRIES], tape: &[u8], words: &mut [i64]) -> Answer
+// out. No word is written on a refusal.
+pub fn traverse_in(
+    table: &[u32; ENTRIES],
+    tape: &[u8],
+    words: &mut [i64],
+) -> Result<Figures, Refused>
     ensures answer { told_traverse result
         ≡ traversed_by (entry_in table.now) tape.now
         (length words.old) }
@@ -156,114 +168,56 @@ pub fn traverse_in(table: &[u32; ENTRIES], tape: &[u8], words: &mut [i64]) -> An
         ≡ traversed_words_by (entry_in table.now) tape.now
         words.old }
 {
-    if words.len() < STATION_WORDS {
-        return Answer::Refused {
-            number: NO_ROOM,
-            place: 0,
-        };
-    }
-    let taken = tape::take(tape);
-    match taken {
-        Taken::Refused { number, place } => Answer::Refused { number, place },
-        Taken::Reads(c) => work_in(table, tape, c, words),
-    }
+    has_room(words.len(), STATION_WORDS)?;
+    let c = tape::take(tape)?;
+    work(table, tape, c, words)
 }
 
 // The traverse of the rules, by the desk's own table.
-pub fn traverse(tape: &[u8], words: &mut [i64]) -> Answer
+pub fn traverse(tape: &[u8], words: &mut [i64]) -> Result<Figures, Refused>
     ensures answer { told_traverse result
         ≡ traversed tape.now (length words.old) }
     ensures words { words.new
         ≡ traversed_words tape.now words.old }
 {
-    if words.len() < STATION_WORDS {
-        return Answer::Refused {
-            number: NO_ROOM,
-            place: 0,
-        };
-    }
-    let taken = tape::take(tape);
-    match taken {
-        Taken::Refused { number, place } => Answer::Refused { number, place },
-        Taken::Reads(c) => work(tape, c, words),
-    }
-}
-
-// An answer of the traverse, shown: its refusal, or its text in the lent bytes.
-fn show(answer: Answer, words: &[i64; STATION_WORDS], out: &mut [u8]) -> Page
-    requires { Shows answer words.now out.old }
-    ensures page { result ≡ shown (told_traverse answer) words.now }
-    ensures bytes { out.new
-        ≡ shown_bytes (told_traverse answer) words.now out.old }
-{
-    match answer {
-        Answer::Refused { number, place } => Page::Refused { number, place },
-        Answer::Adjusted(figures) => Page::Text(lines::put_all(out, figures, words)),
-    }
+    traverse_in(minutes::own(), tape, words)
 }
 
 // The sheet of a tape that reads, by the sines of a lent table. Its words are its own, and are laid
-// out only here, so that a tape that does not read pays for none.
-fn compose_in(table: &[u32; ENTRIES], tape: &[u8], c: Control, out: &mut [u8]) -> Page
+// out only here, kept out of its caller, so that a tape that does not read pays for none.
+#[inline(never)]
+fn compose(
+    table: &[u32; ENTRIES],
+    tape: &[u8],
+    c: Control,
+    out: &mut [u8],
+) -> Result<usize, Refused>
     requires known { Known tape.now c }
     requires sheet_bytes_in_bounds { sheet_bytes ≤ length out.old }
     ensures { Showed (entry_in table.now) tape.now
         out.old out.new result }
 {
     let mut words = [0i64; STATION_WORDS];
-    let answer = work_in(table, tape, c, &mut words);
-    show(answer, &words, out)
-}
-
-// The sheet of a tape that reads, by the desk's own table, laid out as in `work`.
-fn compose(tape: &[u8], c: Control, out: &mut [u8]) -> Page
-    requires known { Known tape.now c }
-    requires sheet_bytes_in_bounds { sheet_bytes ≤ length out.old }
-    ensures { Showed entry tape.now out.old out.new result }
-{
-    if checking::angles_stand(tape, c) {
-        return compose_in(&minutes::table(), tape, c, out);
-    }
-    Page::Refused {
-        number: BAD_ANGLES,
-        place: c.place,
-    }
+    let figures = work(table, tape, c, &mut words)?;
+    Ok(lines::put_all(out, figures, &words))
 }
 
 // The sheet step by the sines of a lent table, whatever it holds: the text of an accepted tape,
-// from the first lent byte. Refusal 1 is tested before all, and no byte is written on a refusal.
-pub fn sheet_in(table: &[u32; ENTRIES], tape: &[u8], out: &mut [u8]) -> Page
+// from the first lent byte. No byte is written on a refusal.
+pub fn sheet_in(table: &[u32; ENTRIES], tape: &[u8], out: &mut [u8]) -> Result<usize, Refused>
     ensures { Showed (entry_in table.now) tape.now
         out.old out.new result }
 {
-    if out.len() < SHEET_BYTES {
-        return Page::Refused {
-            number: NO_ROOM,
-            place: 0,
-        };
-    }
-    let taken = tape::take(tape);
-    match taken {
-        Taken::Refused { number, place } => Page::Refused { number, place },
-        Taken::Reads(c) => compose_in(table, tape, c, out),
-    }
+    has_room(out.len(), SHEET_BYTES)?;
+    let c = tape::take(tape)?;
+    compose(table, tape, c, out)
 }
 
 // The sheet of the rules, by the desk's own table.
-pub fn sheet(tape: &[u8], out: &mut [u8]) -> Page
+pub fn sheet(tape: &[u8], out: &mut [u8]) -> Result<usize, Refused>
     ensures { Showed entry tape.now out.old out.new result }
 {
-    if out.len() < SHEET_BYTES {
-        return Page::Refused {
-            number: NO_ROOM,
-            place: 0,
-        };
-    }
-    let taken = tape::take(tape);
-    match taken {
-        Taken::Refused { number, place } => Page::Refused { number, place },
-        Taken::Reads(c) => compose(tape, c, out),
-    }
+    sheet_in(minutes::own(), tape, out)
 }
 
 // What the program prints: the sheet, or the line of a refusal; nothing in bytes that have no room
@@ -278,7 +232,9 @@ pub fn print(tape: &[u8], out: &mut [u8]) -> usize
         return 0;
     }
     match sheet(tape, out) {
-        Page::Text(n) => n,
-        Page::Refused { number, .. } => lines::put_count(out, 0, b"REFUSED ", number as u64),
+        Ok(n) => n,
+        Err(refused) => {
+            lines::put_count(out, 0, b"REFUSED ", u64::from(refused.refusal.number()))
+        }
     }
 }

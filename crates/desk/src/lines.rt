@@ -1,35 +1,30 @@
 // The lines of the sheet, each put after the one before.
-ghost use Rattle.std.specs.Prelude.{◌≡◌, ◌++◌, ◌+◌, ◌^◌, ◌≤◌, get_or, pos};
+// Kept: the lines are put by the writers of `text`, each from a place on, since each promise names
+// every byte.
+ghost use Rattle.std.specs.Prelude.{◌≡◌, ◌++◌, ◌+◌, ◌^◌, ◌≤◌, Ok};
 ghost use Rattle.answer.specs.Limit.{most_legs};
 ghost use Rattle.text.specs.Text.{ascii, decimal, plain, amount};
 ghost use Rattle.text.specs.Room.{Room, Put};
 ghost use Rattle.desk.specs.Sheet.{closures_text, close_line, line_of, station_lines};
 ghost use Rattle.desk.specs.Sheet.{area_line, text_of, foot_decimals};
-ghost use Rattle.desk.specs.Answer.{most_stations, station_words, told_traverse};
-ghost use Rattle.desk.specs.declared.Answer.TheVariants.{Adjusted};
+ghost use Rattle.desk.specs.Answer.{most_stations, told_traverse};
 
-use crate::{Figures, STATION_WORDS};
+use crate::vector::Vector;
+use crate::{Figures, STATION_WORDS, coordinates};
 use text::Quantity;
 use whole::Whole;
 
-// ---- the decimals of what is printed, and how many units make one: tenths of a second, hundredths
-// of a foot, ten-thousandths of a square foot
-const SECOND_DECIMALS: usize = 1;
+// ---- the decimals of what is printed: tenths of a second, hundredths of a foot, ten-thousandths
+// of a square foot
+const SECOND_DECIMALS: u32 = 1;
 
-const TENTHS: u64 = 10;
+const FOOT_DECIMALS: u32 = 2;
 
-const FOOT_DECIMALS: usize = 2;
-
-const HUNDREDTHS: u64 = 100;
-
-const AREA_DECIMALS: usize = 4;
-
-const AREA_UNITS: u64 = 10_000;
+const AREA_DECIMALS: u32 = 4;
 
 // A name, and a quantity after it.
 fn put_named(out: &mut [u8], at: usize, name: &[u8], plus: &[u8], q: Quantity) -> usize
-    requires unit_value { q.unit ≡ 10 ^ q.decimals }
-    requires room { Room out.old at
+    requires { Room out.old at
         (name.now ++ amount plus.now q.decimals q.amount.v) }
     ensures { Put out.old at
         (name.now ++ amount plus.now q.decimals q.amount.v)
@@ -49,24 +44,22 @@ fn put_feet(out: &mut [u8], at: usize, name: &[u8], plus: &[u8], z: Whole) -> us
     let feet = Quantity {
         amount: z,
         decimals: FOOT_DECIMALS,
-        unit: HUNDREDTHS,
     };
     put_named(out, at, name, plus, feet)
 }
 
-fn put_closures(out: &mut [u8], w: Whole, north: Whole, east: Whole) -> usize
-    requires { Room out.old 0 (closures_text w.v north.v east.v) }
-    ensures { Put out.old 0 (closures_text w.v north.v east.v)
+fn put_closures(out: &mut [u8], f: Figures) -> usize
+    requires { Room out.old 0 (closures_text f.w.v f.north_closure.v f.east_closure.v) }
+    ensures { Put out.old 0 (closures_text f.w.v f.north_closure.v f.east_closure.v)
         out.new result }
 {
     let seconds = Quantity {
-        amount: w,
+        amount: f.w,
         decimals: SECOND_DECIMALS,
-        unit: TENTHS,
     };
     let i = put_named(out, 0, b"CLOSE W=", b"+", seconds);
-    let j = put_feet(out, i, b" N=", b"+", north);
-    put_feet(out, j, b" E=", b"+", east)
+    let j = put_feet(out, i, b" N=", b"+", f.north_closure);
+    put_feet(out, j, b" E=", b"+", f.east_closure)
 }
 
 // A count between a word and the line feed.
@@ -81,32 +74,25 @@ pub fn put_count(out: &mut [u8], at: usize, name: &[u8], n: u64) -> usize
 }
 
 // The first line: the misclosure, both closures and the precision number.
-fn put_first(out: &mut [u8], w: Whole, north: Whole, east: Whole, precision: u64) -> usize
-    requires { Room out.old 0 (close_line w.v north.v east.v precision) }
-    ensures { Put out.old 0 (close_line w.v north.v east.v precision)
+fn put_first(out: &mut [u8], f: Figures) -> usize
+    requires { Room out.old 0 (close_line f.w.v f.north_closure.v f.east_closure.v f.precision) }
+    ensures { Put out.old 0 (close_line f.w.v f.north_closure.v f.east_closure.v f.precision)
         out.new result }
 {
-    let i = put_closures(out, w, north, east);
-    put_count(out, i, b" P=", precision)
+    let i = put_closures(out, f);
+    put_count(out, i, b" P=", f.precision)
 }
 
-fn put_coordinates(out: &mut [u8], at: usize, north: Whole, east: Whole) -> usize
+fn put_coordinates(out: &mut [u8], at: usize, p: Vector) -> usize
     requires { Room out.old at
-        ((ascii " " ++ plain 2 north.v) ++ (ascii " " ++ plain 2 east.v) ++ ascii "\n") }
+        ((ascii " " ++ plain 2 p.north.v) ++ (ascii " " ++ plain 2 p.east.v) ++ ascii "\n") }
     ensures { Put out.old at
-        ((ascii " " ++ plain 2 north.v) ++ (ascii " " ++ plain 2 east.v) ++ ascii "\n")
+        ((ascii " " ++ plain 2 p.north.v) ++ (ascii " " ++ plain 2 p.east.v) ++ ascii "\n")
         out.new result }
 {
-    let i = put_feet(out, at, b" ", b"", north);
-    let j = put_feet(out, i, b" ", b"", east);
+    let i = put_feet(out, at, b" ", b"", p.north);
+    let j = put_feet(out, i, b" ", b"", p.east);
     text::put(out, j, b"\n")
-}
-
-fn word(words: &[i64; STATION_WORDS], at: usize) -> Whole
-    requires { at + 1 ≤ station_words }
-    ensures { result.v ≡ get_or words.now at (pos 0) }
-{
-    Whole { v: words[at] }
 }
 
 // The line of station k.
@@ -117,7 +103,7 @@ fn put_station(out: &mut [u8], at: usize, words: &[i64; STATION_WORDS], k: usize
         out.new result }
 {
     let i = text::put_decimal(out, at, k as u64);
-    put_coordinates(out, i, word(words, 2 * k), word(words, 2 * k + 1))
+    put_coordinates(out, i, coordinates::station(words, k))
 }
 
 // The lines of the stations below n.
@@ -128,10 +114,8 @@ fn put_stations(out: &mut [u8], at: usize, words: &[i64; STATION_WORDS], n: usiz
         out.new result }
 {
     let mut i = at;
-    let mut k: usize = 0;
-    while k < n {
+    for k in 0..n {
         i = put_station(out, i, words, k);
-        k = k + 1;
     }
     i
 }
@@ -145,7 +129,6 @@ fn put_area(out: &mut [u8], at: usize, area: Whole, looped: bool) -> usize
         let square_feet = Quantity {
             amount: area,
             decimals: AREA_DECIMALS,
-            unit: AREA_UNITS,
         };
         let i = put_named(out, at, b"AREA2 ", b"", square_feet);
         return text::put(out, i, b"\n");
@@ -156,12 +139,12 @@ fn put_area(out: &mut [u8], at: usize, area: Whole, looped: bool) -> usize
 // The whole sheet, from the first lent byte.
 pub fn put_all(out: &mut [u8], f: Figures, words: &[i64; STATION_WORDS]) -> usize
     requires legs_le_most_legs { f.legs ≤ most_legs }
-    requires room { Room out.old 0 (text_of (told_traverse (Adjusted f)) words.now) }
+    requires room { Room out.old 0 (text_of (told_traverse (Ok f)) words.now) }
     ensures { Put out.old 0
-        (text_of (told_traverse (Adjusted f)) words.now)
+        (text_of (told_traverse (Ok f)) words.now)
         out.new result }
 {
-    let i = put_first(out, f.w, f.north_closure, f.east_closure, f.precision);
+    let i = put_first(out, f);
     let j = put_stations(out, i, words, f.legs + 1);
     put_area(out, j, f.area, f.looped)
 }

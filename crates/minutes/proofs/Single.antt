@@ -7,7 +7,7 @@ use lib.Seq.{ext_get_or}
 use lib.IntN.{nat_abs}
 use Rattle.minutes.specs.Entry.{Table}
 
--- `table`
+-- `table`, `own`
 pub table_single : (t u : List ℕ) → Table t → Table u → t ≡ u
 table_single t u p q =
     ext_get_or 0 t u (p.count ∙ sym q.count)

@@ -1,62 +1,45 @@
--- The byte-order mark: what the code's tests, one after the other, say of the first three bytes.
-use mathlib.Core.Path.{◌≡◌, sym, ◌∙◌}
-use mathlib.Core.Bool.{Bool, true, false, and-eq-true_iff}
-use mathlib.Core.List.{List, ◌∷◌}
-use Prim.Native.Nat.{ℕ, ◌-◌, ◌≤◌, ◌<◌}
+-- The byte-order mark: that its three bytes stand first is what the definition says.
+use mathlib.Core.Path.{◌≡◌, refl, sym, ◌∙◌}
+use mathlib.Core.Bool.{Bool, true, false, ◌&&◌}
+use mathlib.Core.List.{List, [], ◌∷◌}
+use Prim.Native.Nat.{ℕ, ◌+◌}
 use native.Mathlib.Omega.{arith}
-use borrow.Author.Tests.{le-leb, lt-leb, leb-true, eq-eqb, ne_eqb}
-use lib.Dec.{leb, eqb}
-use lib.ListN.{length, take, drop, get_or, length-drop}
-use lib.Seq.{take_all}
+use borrow.Author.Tests.{le-leb}
+use denote.Bor.{Bor}
+use lib.Dec.{eqb}
+use lib.ListN.{length, take, drop}
+use lib.Pointwise.{pointwise}
+use Rattle.std.specs.Option.{MatchOption, unwrap_or}
+use Rattle.std.specs.Prelude.{Option, Some, None}
 use Rattle.notes.specs.Bom.{starts_with_bom, without_bom}
 
-module _ (text : List ℕ) where
-  pub too_short : length text < 3 → false ≡ starts_with_bom text
-  unfolding starts_with_bom
-  too_short h = rw (lt-leb 3 (length text) h)
+both_false : (s : Bool) → (s && false) ≡ false
+both_false true = refl
+both_false false = refl
 
-  module _ (h : 3 ≤ length text) where
-    pub other_first : (get_or text 0 0 ≡ 239 → ⊥) → false ≡ starts_with_bom text
-    unfolding starts_with_bom
-    other_first n = rw (le-leb 3 (length text) h, ne_eqb (get_or text 0 0) 239 n)
+both_true : (s : Bool) → (s && true) ≡ s
+both_true true = refl
+both_true false = refl
 
-    module _ (e : get_or text 0 0 ≡ 239) where
-      pub other_second : (get_or text 1 0 ≡ 187 → ⊥) → false ≡ starts_with_bom text
-      unfolding starts_with_bom
-      other_second n =
-          rw (
-            le-leb 3 (length text) h,
-            eq-eqb (get_or text 0 0) 239 e,
-            ne_eqb (get_or text 1 0) 187 n,
-          )
+-- the first three bytes are those of the mark, compared one by one
+marked : (text : List ℕ) → pointwise eqb (take 3 text) (239 ∷ 187 ∷ 191 ∷ []) ≡ starts_with_bom text
+unfolding starts_with_bom
+marked [] = refl
+marked (a ∷ []) = both_false (eqb a 239)
+marked (a ∷ b ∷ []) = rw (both_false (eqb b 187)) (both_false (eqb a 239))
+marked (a ∷ b ∷ c ∷ text) =
+    rw (le-leb 3 (length (a ∷ b ∷ c ∷ text)) (omega arith), both_true (eqb c 191))
 
-      pub only_third : get_or text 1 0 ≡ 187 → eqb (get_or text 2 0) 191 ≡ starts_with_bom text
-      unfolding starts_with_bom
-      only_third f =
-          rw (
-            le-leb 3 (length text) h,
-            eq-eqb (get_or text 0 0) 239 e,
-            eq-eqb (get_or text 1 0) 187 f,
-          )
-
-  module _ (b : Bool) (e : b ≡ starts_with_bom text) where
-    pub bom_room : b ≡ true → 3 ≤ length text
-    unfolding starts_with_bom
-    bom_room t =
-        leb-true 3 (length text) ((and-eq-true_iff (leb 3 (length text)) _).0 (sym e ∙ t)).0
-
-    -- a part of a text from a place on is what the text has left there
-    pub after_bom : b ≡ true → take (length text - 3) (drop 3 text) ≡ without_bom text
-    unfolding without_bom
-    after_bom t =
-        rw (sym e ∙ t)
-        (take_all (length text - 3) (drop 3 text) (omega (arith, length-drop 3 text)))
-
-    pub no_bom : b ≡ false → text ≡ without_bom text
-    unfolding without_bom
-    no_bom t = rw (sym e ∙ t)
-
-pub ruleset tested = (too_short, other_first, other_second, only_third)
+-- what is left behind the mark, or else the whole
+pub left_or_all : (text : Bor (List ℕ)) (left : Option (Bor (List ℕ)))
+    → MatchOption left (pointwise eqb (take 3 text.now) (239 ∷ 187 ∷ 191 ∷ []) ≡ false)
+    (λ x. (pointwise eqb (take 3 text.now) (239 ∷ 187 ∷ 191 ∷ []) ≡ true)
+    × (x.now ≡ drop 3 text.now)
+    × (length x.now + 3 ≡ length text.now))
+    → (unwrap_or left text).now ≡ without_bom text.now
+unfolding without_bom
+left_or_all text None none = rw (sym (marked text.now) ∙ none)
+left_or_all text (Some rest) some = rw (sym (marked text.now) ∙ some.0) some.1
 
 -- a text that is written after the mark is read without it
 pub bom_goes : (text : List ℕ) → without_bom (239 ∷ 187 ∷ 191 ∷ text) ≡ text

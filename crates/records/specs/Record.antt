@@ -112,6 +112,7 @@ spell (f ∷ fs) [] = []
 spell (f ∷ fs) (v ∷ vs) = bytes f.width (written f.width v) ++ spell fs vs
 
 unfoldable pub body_of : ℕ → ℕ
+unfolding kind_fields table
 body_of k = total (kind_fields k)
 
 -- the numbers of the record of kind k at the front of l
@@ -119,6 +120,7 @@ unfoldable pub numbers_of : ℕ → List ℕ → List ℤ
 numbers_of k l = numbers (kind_fields k) l 1
 
 unfoldable pub good_of : ℕ → List ℤ → Bool
+unfolding kind_fields table
 good_of k vs = in_ranges (kind_fields k) vs
 
 unfoldable pub bytes_of : ℕ → List ℤ → List ℕ

@@ -9,10 +9,10 @@ use mathlib.Core.List.{List, [], ◌∷◌, ◌++◌, append_assoc}
 use lib.ListN.{length, take, drop, take-append-drop, length-append, length-drop}
 use lib.Seq.{length-take-le, take_at, drop_at, drop-drop}
 use borrow.Author.Tests.{le-leb}
+use Rattle.std.specs.Prelude.{Result, Ok, Err}
+use Rattle.answer.specs.declared.Refused.{Refused}
 use Rattle.records.specs.declared.Record.{Record}
 use Rattle.records.specs.Record.{good_record, bytes_of_record}
-use Rattle.writer.specs.declared.Written.{Written}
-use Rattle.writer.specs.declared.Written.TheVariants.{Refused, Until}
 use Rattle.writer.specs.Write.{Wrote, answer_of, left_of, told_written}
 use Rattle.tape.specs.Tape.{tape_of}
 use Rattle.tape.specs.Legs.{Good}
@@ -20,13 +20,13 @@ use Rattle.roundtrip.specs.Writes.{Writes, none, next, stop, recs, Leaves}
 
 -- ---- a tape stands at a place of the bytes, no other byte is changed, and the answer is the place
 -- after it
-record Placed (tape out : List ℕ) (at : ℕ) (left : List ℕ) (w : Written) : Type 0 where
-  answer : w ≡ Until (at + length tape)
+record Placed (tape out : List ℕ) (at : ℕ) (left : List ℕ) (w : Result ℕ Refused) : Type 0 where
+  answer : w ≡ Ok (at + length tape)
   bytes : left ≡ take at out ++ (tape ++ drop (at + length tape) out)
 
 module _ (out mid : List ℕ) (at : ℕ) (b : List ℕ) where
   -- a good record that has room is placed by `write`
-  placed_one : (good : Bool) (w : Written) → Wrote out mid at good b w → good ≡ true
+  placed_one : (good : Bool) (w : Result ℕ Refused) → Wrote out mid at good b w → good ≡ true
       → at + length b ≤ length out → Placed b out at mid w
   unfolding answer_of left_of
   placed_one good w h g room =
@@ -34,7 +34,8 @@ module _ (out mid : List ℕ) (at : ℕ) (b : List ℕ) where
       record { answer = h.answer ∙ rw (fits, g); bytes = h.left ∙ rw (fits, g) }
 
   -- the bytes b, and then a tape t placed after them, are the one tape b ++ t placed
-  module _ (v : Written) (one : Placed b out at mid v) (room : at + length b ≤ length out) where
+  module _ (v : Result ℕ Refused) (one : Placed b out at mid v)
+      (room : at + length b ≤ length out) where
     front : length (take at out ++ b) ≡ at + length b
     front = omega (arith, length-append (take at out) b, length-take-le at out (omega arith))
 
@@ -51,7 +52,7 @@ module _ (out mid : List ℕ) (at : ℕ) (b : List ℕ) where
           length-drop (at + length b) out,
         )
 
-    placed_more : (t left : List ℕ) (w : Written) → Placed t mid (at + length b) left w
+    placed_more : (t left : List ℕ) (w : Result ℕ Refused) → Placed t mid (at + length b) left w
         → Placed (b ++ t) out at left w
     placed_more t left w p =
         let m = at + length b in
@@ -62,19 +63,19 @@ module _ (out mid : List ℕ) (at : ℕ) (b : List ℕ) where
         let after : drop (m + length t) mid ≡ drop (m + length t) out
         = rw (← drop-drop (length t) m mid, rest) (drop-drop (length t) m out) in
         record {
-          answer = p.answer ∙ ap Until (sym end);
+          answer = p.answer ∙ ap Ok (sym end);
           bytes =
               p.bytes
               ∙ rw (before, after, end, append_assoc (take at out) b _, append_assoc b t _);
         }
 
-placed : {out left : List ℕ} {at : ℕ} {rs : List Record} {w : Written} → Writes out at rs left w
-    → Good (recs rs) → at + length (tape_of (recs rs)) ≤ length out
+placed : {out left : List ℕ} {at : ℕ} {rs : List Record} {w : Result ℕ Refused}
+    → Writes out at rs left w → Good (recs rs) → at + length (tape_of (recs rs)) ≤ length out
     → Placed (tape_of (recs rs)) out at left w
 unfolding tape_of
 placed {out} {at = at} none g room =
     record {
-      answer = ap Until (sym (add-zero at));
+      answer = ap Ok (sym (add-zero at));
       bytes = rw (add-zero at) (sym (take-append-drop at out));
     }
 placed {out} {left} {at} (next {mid = mid} {n = n} r {rs} {w} h more) g room =
@@ -82,20 +83,19 @@ placed {out} {left} {at} (next {mid = mid} {n = n} r {rs} {w} h more) g room =
     let t = tape_of (recs rs) in
     let long = length-append b t in
     let fits : at + length b ≤ length out = omega arith in
-    let one = placed_one out mid at b (good_record r) (Until n) h g.0 fits in
+    let one = placed_one out mid at b (good_record r) (Ok n) h g.0 fits in
     let e : n ≡ at + length b = let a = one.answer in cc in
-    let same = same_length out mid at b (Until n) one fits in
-    placed_more out mid at b (Until n) one fits t left w
+    let same = same_length out mid at b (Ok n) one fits in
+    placed_more out mid at b (Ok n) one fits t left w
     (rw e at (placed more g.1 (omega arith)))
-placed {out} {left} {at} (stop {n = n} {p} r {rs} h) g room =
+placed {out} {left} {at} (stop {x = x} r {rs} h) g room =
     let b = bytes_of_record r in
     let fits : at + length b ≤ length out = omega (arith, length-append b (tape_of (recs rs))) in
-    let a = (placed_one out left at b (good_record r) (Refused n p) h g.0 fits).answer in
-    let z : ◌≡◌ {A = ℕ} 0 1 = cc in
-    absurd (omega arith)
+    let a = (placed_one out left at b (good_record r) (Err x) h g.0 fits).answer in
+    cc
 
 -- ---- the records of a tape, from the first place on
-pub written_tape : (rs : List Record) (out left : List ℕ) (w : Written) → Good (recs rs)
+pub written_tape : (rs : List Record) (out left : List ℕ) (w : Result ℕ Refused) → Good (recs rs)
     → length (tape_of (recs rs)) ≤ length out → Writes out 0 rs left w
     → Leaves (tape_of (recs rs)) out left w
 written_tape rs out left w g room h =
@@ -104,21 +104,22 @@ written_tape rs out left w g room h =
 
 -- ---- there always is such a writing, since `write` answers any record at any place
 pub writing : (out : List ℕ) (at : ℕ) (rs : List Record)
-    → (left : List ℕ) × (w : Written) × Writes out at rs left w
-writing out at [] = (out, Until at, none)
+    → (left : List ℕ) × (w : Result ℕ Refused) × Writes out at rs left w
+writing out at [] = (out, Ok at, none)
 writing out at (r ∷ rs) =
     go (answer_of out at (good_record r) (bytes_of_record r)) refl (λ mid n. writing mid n rs)
   where
     mid : List ℕ
     mid = left_of out at (good_record r) (bytes_of_record r)
 
-    owes : (w : Written) → answer_of out at (good_record r) (bytes_of_record r) ≡ w
+    owes : (w : Result ℕ Refused) → answer_of out at (good_record r) (bytes_of_record r) ≡ w
         → Wrote out mid at (good_record r) (bytes_of_record r) w
     owes w e = record { answer = sym e; tells = ap told_written (sym e); left = refl }
 
-    go : (x : Written) → answer_of out at (good_record r) (bytes_of_record r) ≡ x
-        → ((mid : List ℕ) (n : ℕ) → (left : List ℕ) × (w : Written) × Writes mid n rs left w)
-        → (left : List ℕ) × (w : Written) × Writes out at (r ∷ rs) left w
-    go (Until n) e more =
-        let i = more mid n in (i.0, i.1, next r (owes (Until n) e) i.2)
-    go (Refused n p) e more = (mid, Refused n p, stop r (owes (Refused n p) e))
+    go : (x : Result ℕ Refused) → answer_of out at (good_record r) (bytes_of_record r) ≡ x
+        → ((mid : List ℕ) (n : ℕ)
+        → (left : List ℕ) × (w : Result ℕ Refused) × Writes mid n rs left w)
+        → (left : List ℕ) × (w : Result ℕ Refused) × Writes out at (r ∷ rs) left w
+    go (Ok n) e more =
+        let i = more mid n in (i.0, i.1, next r (owes (Ok n) e) i.2)
+    go (Err x) e more = (mid, Err x, stop r (owes (Err x) e))

@@ -10,8 +10,10 @@ use native.Mathlib.Nat.{min-eq_left, min-le_right}
 use borrow.Author.Tests.{le-leb, lt-leb}
 use lib.ListN.{get_or}
 use lib.IntN.{ℤ, pos, nat_abs}
+use Rattle.std.proofs.Common.{Result}
 use Rattle.answer.specs.Told.{told_amount}
-use Rattle.answer.specs.declared.Amount.{Amount}
+use Rattle.answer.specs.declared.OutOfRange.{OutOfRange}
+use Rattle.whole.specs.declared.Whole.{Whole}
 use Rattle.minutes.specs.Quadrant.{circle, folded}
 use Rattle.minutes.specs.Entry.{Table, entry, last_minute}
 use Rattle.minutes.specs.Exact.{nine_decimals}
@@ -77,7 +79,7 @@ pub lent_quarter : (t : List ℕ) (a m r v : ℕ) → a ≡ 600 * m + r → r �
 lent_quarter t a m r v past h g = g ∙ sym (from_minute (entry_in t) a m r past h)
 
 -- ---- so what the desk's own table tells is the rules'
-module _ (t : List ℕ) (right : Table t) (a : ℕ) (r : Amount) where
+module _ (t : List ℕ) (right : Table t) (a : ℕ) (r : Result Whole OutOfRange) where
   pub own_sine : told_amount r ≡ of_angle a (sine_by (entry_in t) a)
       → told_amount r ≡ of_angle a (sine_by entry a)
   own_sine g = g ∙ ap (λ (e : ℕ → ℤ). of_angle a (sine_by e a)) (own_entries t right)

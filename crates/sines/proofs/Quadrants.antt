@@ -8,13 +8,9 @@ use native.Mathlib.Omega.{arith}
 use borrow.Author.Tests.{le-leb, lt-leb, lt-ltb, le-ltb}
 use lib.Dec.{ltb}
 use lib.IntN.{ℤ, pos, neg_ℤ, nat_abs}
-use Rattle.whole.specs.declared.Whole.{Whole}
 use Rattle.whole.proofs.Laws.{abs_neg}
-use Rattle.answer.specs.Told.{told_amount}
-use Rattle.answer.specs.declared.Amount.TheVariants.{Is, OutOfRange}
-use Rattle.answer.proofs.Telling.{tells, refuses}
 use Rattle.minutes.specs.Quadrant.{circle, folded, signed_by, around, quarter_ahead}
-use Rattle.sines.specs.Sine.{quarter_by, sine_by, cosine_by, of_angle}
+use Rattle.sines.specs.Sine.{quarter_by, sine_by}
 
 -- ---- folding
 pub first : (a : ℕ) → a ≤ 3240000 → a ≡ folded a
@@ -111,20 +107,3 @@ module _ (e : ℕ → ℤ) where
 
     pub size_is : n ≡ nat_abs (sine_by e a)
     size_is = sym (rw (← sine_is (ltb 6480000 a) refl) (turned_size (ltb 6480000 a) n))
-
-  -- what the steps tell
-  pub sine_told : (a x n : ℕ) (v : Whole) → v.v ≡ signed_by (ltb 6480000 a) (pos n)
-      → pos n ≡ quarter_by e x → x ≡ folded a → a < 12960000
-      → told_amount (Is v) ≡ of_angle a (sine_by e a)
-  sine_told a x n v d g f h = tells _ v _ (lt-ltb a 12960000 h) (d ∙ sine_is a x n f g _ refl)
-
-  pub cosine_told : (a x n : ℕ) (back : Bool) (v : Whole) → v.v ≡ signed_by back (pos n)
-      → back ≡ ltb 6480000 (quarter_ahead a) → pos n ≡ quarter_by e (3240000 - x) → x ≡ folded a
-      → a < 12960000
-      → told_amount (Is v) ≡ of_angle a (cosine_by e a)
-  cosine_told a x n back v d p g f h =
-      tells _ v _ (lt-ltb a 12960000 h)
-      (d ∙ sine_is (quarter_ahead a) (3240000 - x) n (rw f (sym (folded_ahead a h))) g back p)
-
-pub too_far : (a : ℕ) (z : ℤ) → 12960000 ≤ a → told_amount OutOfRange ≡ of_angle a z
-too_far a z h = refuses _ z (le-ltb a 12960000 h)

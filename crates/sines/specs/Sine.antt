@@ -1,17 +1,16 @@
 -- docs/RULES.md, "Sines": the interpolation between the entries of the table, and what the steps
 -- answer.
-use Rattle.std.specs.Prelude.{cond, List, ℕ, ◌+◌, ◌/◌, ◌%◌, min, leb, ltb, get_or, ℤ, pos, nat_abs}
+use Rattle.std.specs.Prelude.{cond, List, Result, Ok, Err, ℕ, ◌+◌, ◌/◌, ◌%◌, min, leb, ltb, get_or}
+use Rattle.std.specs.Prelude.{ℤ, pos, nat_abs}
 use Rattle.std.specs.Prelude.{◌+ℤ◌, ◌-ℤ◌, ◌*ℤ◌}
 use Rattle.whole.specs.Nearest.{nearest}
-use Rattle.answer.specs.Refusal.{out_of_range}
-use Rattle.answer.specs.Told.{ToldStep, given, refused, in_range}
+use Rattle.answer.specs.Told.{ToldStep, told, in_range}
+use Rattle.answer.specs.declared.OutOfRange.{OutOfRange}
 use Rattle.minutes.specs.Entry.{entry, last_minute}
 use Rattle.minutes.specs.Exact.{nine_decimals}
 use Rattle.minutes.specs.Quadrant.{circle, half_circle, tenths_in_minute}
 use Rattle.minutes.specs.Quadrant.{signed_by, around, quarter_ahead}
 use Rattle.sines.specs.declared.Sides.{Sides}
-use Rattle.sines.specs.declared.Turned.{Turned}
-use Rattle.sines.specs.declared.Turned.TheVariants.{Are, OutOfRange}
 
 -- "entry m plus the nearest whole number to (entry m+1 less entry m) x r / 600"
 unfoldable pub between : ℤ → ℤ → ℕ → ℤ
@@ -44,24 +43,24 @@ of_angle a z = in_range (ltb a circle) z
 unfoldable pub sides_by : (ℕ → ℤ) → ℕ → Sides
 sides_by e a =
     record {
-      sine = nat_abs (sine_by e a);
-      past = ltb half_circle a;
-      cosine = nat_abs (cosine_by e a);
-      back = ltb half_circle (quarter_ahead a);
+      sine = record { size = nat_abs (sine_by e a); negative = ltb half_circle a };
+      cosine =
+          record {
+            size = nat_abs (cosine_by e a);
+            negative = ltb half_circle (quarter_ahead a);
+          };
     }
 
 -- both, or the refusal
-abbrev pub turned_by : (ℕ → ℤ) → ℕ → Turned
-turned_by e a = cond (ltb a circle) (Are (sides_by e a)) OutOfRange
+abbrev pub turned_by : (ℕ → ℤ) → ℕ → Result Sides OutOfRange
+turned_by e a = cond (ltb a circle) (Ok (sides_by e a)) (Err (record {}))
 
--- what each case tells of the sine, and of the cosine: the size with its sign
-abbrev pub told_sine : Turned → ToldStep
-told_sine (Are s) = given (signed_by s.past (pos s.sine))
-told_sine OutOfRange = refused out_of_range 0
+-- what is told of the sine, and of the cosine: the size with its sign
+abbrev pub told_sine : Result Sides OutOfRange → ToldStep
+told_sine = told (λ s. signed_by s.sine.negative (pos s.sine.size))
 
-abbrev pub told_cosine : Turned → ToldStep
-told_cosine (Are s) = given (signed_by s.back (pos s.cosine))
-told_cosine OutOfRange = refused out_of_range 0
+abbrev pub told_cosine : Result Sides OutOfRange → ToldStep
+told_cosine = told (λ s. signed_by s.cosine.negative (pos s.cosine.size))
 
 -- "Every sine is within 20 units of the ninth decimal of the exact one"
 abbrev pub units : ℕ

@@ -1,11 +1,12 @@
 // Sines and cosines by the table of whole minutes, in units of the ninth decimal; angles in tenths
 // of a second.
 //
-// The functions that end in `_in` read a lent table, whatever it holds; the others lay out the
-// desk's own once their angle is known to be one. Sizes are unsigned, and a sign is put on once.
+// The functions that end in `_in` read a lent table, whatever it holds; the others are these by the
+// desk's own. Sizes are unsigned, and a sign is put on once.
 #![tactic(auto)]
 
-ghost use Rattle.std.specs.Prelude.{◌≡◌, ◌+◌, ◌-◌, ◌*◌, ◌<◌, ◌≤◌, ◌^◌, min, ltb, pos, nat_abs};
+ghost use Rattle.std.specs.Prelude.{◌≡◌, ◌+◌, ◌-◌, ◌*◌, ◌<◌, ◌≤◌, ◌^◌, ltb, pos, nat_abs};
+ghost use Rattle.std.specs.Prelude.{IsOk, ◌↔◌};
 ghost use Rattle.answer.specs.Told.{told_amount};
 ghost use Rattle.minutes.specs.Quadrant.{circle, half_circle, quarter_circle, tenths_in_minute};
 ghost use Rattle.minutes.specs.Quadrant.{folded, signed_by, quarter_ahead};
@@ -14,7 +15,7 @@ ghost use Rattle.minutes.specs.Entry.{entry, last_minute};
 ghost use Rattle.sines.specs.Sine.{between as Sine·between, quarter_by, entry_in};
 ghost use Rattle.sines.specs.Sine.{sine_by, cosine_by, of_angle, turned_by, told_sine, told_cosine};
 
-use answer::Amount;
+use answer::OutOfRange;
 use minutes::quadrant::{CIRCLE, HALF_CIRCLE, QUARTER_CIRCLE, TENTHS_IN_MINUTE, THREE_QUARTERS};
 use minutes::{ENTRIES, LAST_MINUTE, NINE_DECIMALS};
 use whole::Whole;
@@ -25,14 +26,29 @@ const LAST_START: u32 = LAST_MINUTE as u32 - 1;
 // The tenths of a minute, as wide as the products that they divide.
 const MINUTE: u64 = TENTHS_IN_MINUTE as u64;
 
-// The sine and the cosine of an angle: their sizes, and whether each is negative, the sine past 180
-// degrees, the cosine between 90 and 270.
-#[derive(Clone, Copy)]
+// A number by its size and its sign.
+#[derive(Clone, Copy, Debug, PartialEq, Eq)]
+pub struct Signed {
+    pub size: u32,
+    pub negative: bool,
+}
+
+impl Signed {
+    pub fn amount(self) -> Whole
+        ensures is { result.v ≡ signed_by self.negative (pos self.size) }
+        ensures size { nat_abs result.v ≡ self.size }
+    {
+        let size = Whole::from(self.size);
+        if self.negative { size.opposite() } else { size }
+    }
+}
+
+// The sine and the cosine of an angle. The sine is negative past 180 degrees, the cosine between 90
+// and 270.
+#[derive(Clone, Copy, Debug, PartialEq, Eq)]
 pub struct Sides {
-    pub sine: u32,
-    pub past: bool,
-    pub cosine: u32,
-    pub back: bool,
+    pub sine: Signed,
+    pub cosine: Signed,
 }
 
 // The sizes of a sine and a cosine, without their signs.
@@ -40,23 +56,6 @@ pub struct Sides {
 struct Sizes {
     sine: u32,
     cosine: u32,
-}
-
-// The sine and the cosine of an angle, or it was no angle of the circle.
-#[derive(Clone, Copy)]
-pub enum Turned {
-    OutOfRange,
-    Are(Sides),
-}
-
-// What an entry of a lent table counts as.
-fn counted(e: u32) -> u32
-    ensures { result ≡ min e nine_decimals }
-{
-    if NINE_DECIMALS < e {
-        return NINE_DECIMALS;
-    }
-    e
 }
 
 // The sine r tenths past a minute whose entry is e, where the next entry is f and no lower: by a
@@ -67,7 +66,7 @@ fn rise(e: u32, f: u32, r: u32) -> u32
     ensures is { pos result ≡ Sine·between (pos e) (pos f) r }
     ensures most { result ≤ nine_decimals }
 {
-    e + whole::half_up((f - e) as u64 * r as u64, MINUTE) as u32
+    e + whole::half_up(u64::from(f - e) * u64::from(r), MINUTE) as u32
 }
 
 // The sine r tenths past a minute whose entry is e, where the next entry f may be lower.
@@ -80,7 +79,7 @@ fn between(e: u32, f: u32, r: u32) -> u32
     if e <= f {
         return rise(e, f, r);
     }
-    e - whole::half_up((e - f) as u64 * r as u64, MINUTE) as u32
+    e - whole::half_up(u64::from(e - f) * u64::from(r), MINUTE) as u32
 }
 
 // The sine r tenths past a minute, by the entries of a lent table. Those of a table of sines rise
@@ -93,12 +92,10 @@ fn past_minute(table: &[u32; ENTRIES], m: usize, r: u32) -> u32
 {
     let e = table[m];
     let f = table[m + 1];
-    if f <= NINE_DECIMALS {
-        if e <= f {
-            return rise(e, f, r);
-        }
+    if e <= f && f <= NINE_DECIMALS {
+        return rise(e, f, r);
     }
-    between(counted(e), counted(f), r)
+    between(e.min(NINE_DECIMALS), f.min(NINE_DECIMALS), r)
 }
 
 // The minute from which an angle of the first quadrant is counted. At 90 degrees it is the one
@@ -109,13 +106,12 @@ fn minute(a: u32) -> u32
         × (tenths_in_minute * result ≤ a)
         × (a ≤ tenths_in_minute * result + tenths_in_minute) }
 {
-    if a < QUARTER_CIRCLE {
-        return a / TENTHS_IN_MINUTE;
-    }
-    LAST_START
+    (a / TENTHS_IN_MINUTE).min(LAST_START)
 }
 
 // The sine of an angle of the first quadrant in a lent table.
+// Kept: three private functions ask for an angle of the first quadrant (`a ≤ quarter_circle`). A
+// type of folded angles would be made in one place and taken apart in three, which is no plainer.
 fn quarter_in(table: &[u32; ENTRIES], a: u32) -> u32
     requires { a ≤ quarter_circle }
     ensures is { pos result ≡ quarter_by (entry_in table.now) a }
@@ -164,87 +160,76 @@ fn cosine_negative(angle: u32) -> bool
     requires { angle < circle }
     ensures { result ≡ ltb half_circle (quarter_ahead angle) }
 {
-    if angle <= QUARTER_CIRCLE {
-        return false;
-    }
-    angle < THREE_QUARTERS
+    QUARTER_CIRCLE < angle && angle < THREE_QUARTERS
 }
 
-// A size with its sign.
-fn signed(size: u32, negative: bool) -> Whole
-    ensures is { result.v ≡ signed_by negative (pos size) }
-    ensures size { nat_abs result.v ≡ size }
+// Whether an angle is one of the circle.
+pub fn in_circle(angle: u32) -> Result<(), OutOfRange>
+    ensures { IsOk result ↔ angle < circle }
 {
-    let v = Whole::of_size(size as u64);
-    if negative {
-        return v.opposite();
+    if CIRCLE <= angle {
+        return Err(OutOfRange);
     }
-    v
+    Ok(())
 }
 
 // The sine and the cosine of an angle in a lent table, whatever it holds. The angle is folded once:
 // the cosine's is what is left to 90 degrees.
-pub fn sides_in(table: &[u32; ENTRIES], angle: u32) -> Turned
+pub fn sides_in(table: &[u32; ENTRIES], angle: u32) -> Result<Sides, OutOfRange>
     ensures is { result ≡ turned_by (entry_in table.now) angle }
     ensures sine { told_sine result
         ≡ of_angle angle (sine_by (entry_in table.now) angle) }
     ensures cosine { told_cosine result
         ≡ of_angle angle (cosine_by (entry_in table.now) angle) }
 {
-    if CIRCLE <= angle {
-        return Turned::OutOfRange;
-    }
+    in_circle(angle)?;
     let sizes = both_in(table, fold(angle));
-    Turned::Are(Sides {
-        sine: sizes.sine,
-        past: HALF_CIRCLE < angle,
-        cosine: sizes.cosine,
-        back: cosine_negative(angle),
+    Ok(Sides {
+        sine: Signed {
+            size: sizes.sine,
+            negative: HALF_CIRCLE < angle,
+        },
+        cosine: Signed {
+            size: sizes.cosine,
+            negative: cosine_negative(angle),
+        },
     })
 }
 
 // The sine of an angle in a lent table.
-pub fn sine_in(table: &[u32; ENTRIES], angle: u32) -> Amount
+// Kept: by itself and not from both sides, which would work out a line that nobody asked for.
+pub fn sine_in(table: &[u32; ENTRIES], angle: u32) -> Result<Whole, OutOfRange>
     ensures is { told_amount result
         ≡ of_angle angle (sine_by (entry_in table.now) angle) }
     ensures size { nat_abs (told_amount result).value < 2 ^ 32 }
 {
-    if CIRCLE <= angle {
-        return Amount::OutOfRange;
-    }
-    Amount::Is(signed(quarter_in(table, fold(angle)), HALF_CIRCLE < angle))
+    in_circle(angle)?;
+    let size = quarter_in(table, fold(angle));
+    let negative = HALF_CIRCLE < angle;
+    Ok(Signed { size, negative }.amount())
 }
 
 // The cosine is the sine of the angle plus 90 degrees.
-pub fn cosine_in(table: &[u32; ENTRIES], angle: u32) -> Amount
+pub fn cosine_in(table: &[u32; ENTRIES], angle: u32) -> Result<Whole, OutOfRange>
     ensures is { told_amount result
         ≡ of_angle angle (cosine_by (entry_in table.now) angle) }
     ensures size { nat_abs (told_amount result).value < 2 ^ 32 }
 {
-    if CIRCLE <= angle {
-        return Amount::OutOfRange;
-    }
-    Amount::Is(signed(
-        quarter_in(table, QUARTER_CIRCLE - fold(angle)),
-        cosine_negative(angle),
-    ))
+    in_circle(angle)?;
+    let size = quarter_in(table, QUARTER_CIRCLE - fold(angle));
+    let negative = cosine_negative(angle);
+    Ok(Signed { size, negative }.amount())
 }
 
-// By the desk's own table, which is laid out for an angle of the circle only.
-pub fn sine(angle: u32) -> Amount
+// By the desk's own table.
+pub fn sine(angle: u32) -> Result<Whole, OutOfRange>
     ensures { told_amount result ≡ of_angle angle (sine_by entry angle) }
 {
-    if CIRCLE <= angle {
-        return Amount::OutOfRange;
-    }
-    sine_in(&minutes::table(), angle)
+    sine_in(minutes::own(), angle)
 }
 
-pub fn cosine(angle: u32) -> Amount
+pub fn cosine(angle: u32) -> Result<Whole, OutOfRange>
     ensures { told_amount result ≡ of_angle angle (cosine_by entry angle) }
 {
-    if CIRCLE <= angle {
-        return Amount::OutOfRange;
-    }
-    cosine_in(&minutes::table(), angle)
+    cosine_in(minutes::own(), angle)
 }

@@ -1,18 +1,17 @@
 -- The sum round the stations: the tests of the offsets, the size of a cross product and of the sum,
 -- and the sum as the loop builds it.
-use mathlib.Core.Path.{◌≡◌, refl, sym, ◌∙◌, ap, subst}
-use mathlib.Core.Bool.{Bool, true, false, ◌&&◌, and_assoc}
+use mathlib.Core.Path.{◌≡◌, refl, sym, ◌∙◌, ap}
+use mathlib.Core.Bool.{Bool, true, false, ◌&&◌}
 use mathlib.Core.List.{List, [], ◌∷◌}
 use Prim.Native.Nat.{ℕ, zero, suc, ◌+◌, ◌*◌, ◌/◌, ◌%◌, ◌≤◌, ◌<◌}
 use native.Mathlib.Nat.{le_of_suc-le-suc, not-suc-le-zero, mod-lt, mod_self, mod-eq_of_lt}
 use native.Mathlib.Numerals.{add-one}
 use native.Mathlib.Omega.{arith}
-use borrow.Author.Tests.{le-leb, lt-leb, leb-true, ltb-true, ltb-false}
-use lib.Dec.{T, leb}
-use lib.ListN.{length, get_or, drop, drop_of_length-le}
-use lib.Seq.{drop-cons}
-use lib.IntN.{ℤ, pos, negsuc, nat_abs, ◌+ℤ◌, ◌-ℤ◌, ◌*ℤ◌}
-use lib.Signed.{lt_z}
+use borrow.Author.Tests.{leb-true}
+use lib.Dec.{leb}
+use lib.ListN.{length, get_or}
+use lib.IntN.{ℤ, pos, nat_abs, ◌+ℤ◌, ◌-ℤ◌, ◌*ℤ◌}
+use Rattle.std.specs.List.{list_all}
 use Rattle.whole.proofs.Laws.{abs_mul, triangle_sub}
 use Rattle.whole.proofs.Sums.{sum_to_size}
 use Rattle.whole.specs.Sum.{sum_to}
@@ -20,38 +19,15 @@ use Rattle.steps.specs.Area.{northing, easting, stations, cross, next_station, d
 use Rattle.steps.specs.Area.{doubled, good_offsets}
 use Rattle.steps.proofs.Laws.{product_most}
 
--- ---- the test of an offset: by what lies below the range, and what lies above it
-pub too_low : (z : ℤ) (b : Bool) → b ≡ lt_z z (negsuc 129999999) → b ≡ true
-    → false ≡ leb (nat_abs z) 130000000
-too_low (pos n) b e t = absurd (subst T (sym t ∙ e) tt)
-too_low (negsuc n) b e t =
-    sym (lt-leb (suc n) 130000000 (omega (arith, ltb-true 129999999 n (sym e ∙ t))))
+-- ---- the test of the offsets
+abbrev pub small : ℤ → Bool
+small z = leb (nat_abs z) 130000000
 
-pub too_high : (z : ℤ) (b : Bool) → b ≡ lt_z (pos 130000000) z → b ≡ true
-    → false ≡ leb (nat_abs z) 130000000
-too_high (pos n) b e t = sym (lt-leb n 130000000 (ltb-true 130000000 n (sym e ∙ t)))
-too_high (negsuc n) b e t = absurd (subst T (sym t ∙ e) tt)
+pub all_good : (l : List ℤ) → list_all small l ≡ good_offsets l
+unfolding good_offsets
+all_good [] = refl
+all_good (z ∷ l) = ap (λ (b : Bool). small z && b) (all_good l)
 
-pub within_both : (z : ℤ) (a b : Bool) → a ≡ lt_z z (negsuc 129999999) → a ≡ false
-    → b ≡ lt_z (pos 130000000) z → b ≡ false → true ≡ leb (nat_abs z) 130000000
-within_both (pos n) a b d s e t = sym (le-leb n 130000000 (ltb-false 130000000 n (sym e ∙ t)))
-within_both (negsuc n) a b d s e t =
-    sym (le-leb (suc n) 130000000 (omega (arith, ltb-false 129999999 n (sym d ∙ s))))
-
--- of a station's two: z is the first, a and b say of each whether it is in range
-abbrev both_small : List ℤ → ℕ → Bool
-both_small l i = leb (nat_abs (northing l i)) 130000000 && leb (nat_abs (easting l i)) 130000000
-
-module _ (l : List ℤ) (i : ℕ) (z : ℤ) (a : Bool) (g : z ≡ northing l i)
-    (f : a ≡ leb (nat_abs z) 130000000) where
-  pub near_second : (y : ℤ) (b : Bool) → y ≡ easting l i → b ≡ leb (nat_abs y) 130000000 → a ≡ true
-      → b ≡ both_small l i
-  near_second y b k e t = e ∙ rw (← g, ← k, ← f, t)
-
-  pub near_first : a ≡ false → a ≡ both_small l i
-  near_first t = t ∙ rw (← g, ← f, t)
-
--- ---- the test of the offsets, from the i-th station on
 and_true : (a b : Bool) → (a && b) ≡ true → (a ≡ true) × (b ≡ true)
 and_true true b e = (refl, e)
 and_true false b e = absurd (let z : ◌≡◌ {A = ℕ} 0 1 = cc in omega arith)
@@ -64,36 +40,6 @@ small_at (z ∷ l) zero e h =
     leb-true (nat_abs z) 130000000 (and_true (leb (nat_abs z) 130000000) (good_offsets l) e).0
 small_at (z ∷ l) (suc i) e h =
     small_at l i (and_true (leb (nat_abs z) 130000000) (good_offsets l) e).1 (le_of_suc-le-suc h)
-
-small_from : (l : List ℤ) (k : ℕ) → k < length l
-    → good_offsets (drop k l) ≡
-    (leb (nat_abs (get_or l k (pos 0))) 130000000 && good_offsets (drop (k + 1) l))
-unfolding good_offsets
-small_from l k h = rw (drop-cons l k (pos 0) h, add-one k)
-
--- b says whether both offsets of the i-th of n stations are in range
-module _ (l : List ℤ) (i n : ℕ) (b : Bool) (f : b ≡ both_small l i) (g : 2 * n ≡ length l)
-    (h : i < n) (e : good_offsets (drop (2 * i) l) ≡ good_offsets l) where
-  here : good_offsets l ≡ (b && good_offsets (drop (2 * (i + 1)) l))
-  here =
-      let k : 2 * i + 1 + 1 ≡ 2 * (i + 1) = omega arith in
-      let first = leb (nat_abs (northing l i)) 130000000 in
-      let second = leb (nat_abs (easting l i)) 130000000 in
-      sym e ∙ small_from l (2 * i) (omega arith) ∙ ap (λ (s : Bool). first && s)
-      (small_from l (2 * i + 1) (omega arith))
-      ∙ sym (and_assoc first second (good_offsets (drop (2 * i + 1 + 1) l))) ∙ rw (f, k)
-
-  pub small_next : b ≡ true → good_offsets (drop (2 * (i + 1)) l) ≡ good_offsets l
-  small_next k = sym (here ∙ rw k)
-
-  pub small_stop : b ≡ false → false ≡ good_offsets l
-  small_stop k = sym (here ∙ rw k)
-
-pub small_end : (l : List ℤ) (i n : ℕ) → 2 * n ≡ length l → n ≤ i
-    → good_offsets (drop (2 * i) l) ≡ good_offsets l → true ≡ good_offsets l
-unfolding good_offsets
-small_end l i n g h e = let k : length l ≤ 2 * i = omega arith in
-    sym (ap good_offsets (drop_of_length-le l k)) ∙ e
 
 -- ---- the size of a cross product
 pub cross_size : (n : ℕ) (p q a b c d : ℤ) → n ≤ nat_abs p + nat_abs q → p ≡ a *ℤ b → q ≡ c *ℤ d

@@ -2,6 +2,7 @@ pub mod Areas
 pub mod Figures
 pub mod Laws
 pub mod Moving
+pub mod Ranges
 pub mod Rooting
 pub mod Sharing
 pub mod Single

@@ -1,23 +1,26 @@
 -- The whole root and the precision number: the definitions have the properties that name them, and
 -- nothing else has.
 use mathlib.Core.Path.{◌≡◌, refl, sym, ◌∙◌}
-use mathlib.Core.Bool.{Bool, true, false, cond, ◌&&◌, and-eq-true_iff}
+use mathlib.Core.Bool.{Bool, true, false, cond, ◌&&◌}
 use Prim.Native.Nat.{ℕ, zero, suc, ◌+◌, ◌-◌, ◌*◌, ◌/◌, ◌^◌, ◌≤◌, ◌<◌}
 use native.Mathlib.Nat.{lt_of_le_of_lt, le-div_iff_mul-le, div-lt_iff_lt-mul, div-le_self}
-use native.Mathlib.Nat.{le_antisymm, le_trans, pow-succ'}
+use native.Mathlib.Nat.{le_antisymm, pow-succ'}
 use native.Mathlib.Decide.{dec_le, ℕ_discrete}
 use native.Mathlib.Omega.{arith}
-use borrow.Author.Tests.{le-leb, lt-leb, leb-true, eq-eqb, ne_eqb}
-use lib.Dec.{T, leb, leb→le, lit<}
+use borrow.Author.Tests.{le-leb, lt-leb, eq-eqb, ne_eqb}
+use lib.Dec.{leb, lit<}
 use lib.IntN.{ℤ, nat_abs}
 use mir.Syntax.{w64}
 use mir.Val.{Fits}
 use Rattle.steps.proofs.Laws.{product_most, square_most, below_root}
-use Rattle.answer.specs.Told.{told_count, inside}
-use Rattle.answer.specs.declared.Count.TheVariants.{Is, OutOfRange}
+use Rattle.std.proofs.Common.{Ok, Err}
+use Rattle.answer.specs.Told.{told, told_count, inside}
+use Rattle.answer.proofs.Telling.{both, not_first, not_second, inside_yes}
+use Rattle.answer.specs.declared.OutOfRange.{OutOfRange}
 use Rattle.steps.specs.Closure.{most_sum, squares, closes, root, precision}
 use Rattle.steps.specs.Closure.{Precision, PrecisionTold}
 use Rattle.steps.specs.Root.{WholeRoot, worked}
+use Rattle.steps.proofs.Ranges.{outside}
 use Rattle.steps.proofs.root.ByDigits.{worked_is}
 
 pub root_unique : (x r q : ℕ) → WholeRoot x r → WholeRoot x q → r ≡ q
@@ -99,9 +102,10 @@ few_pairs both s z h =
     (div-lt_iff_lt-mul {k = 100 * both} (omega arith)).1 (omega (arith, square_most s h))
 
 -- a refusal tells no number
-pub none_told : (north east : ℤ) (s : ℕ) → PrecisionTold north east s (told_count OutOfRange)
-unfolding told_count
-none_told north east s = record { largest = λ z. absurd (omega (arith, z)) }
+pub none_told : (north east : ℤ) (s : ℕ) (e : OutOfRange)
+    → PrecisionTold north east s (told_count (Err e))
+unfolding told
+none_told north east s e = record { largest = λ z. absurd (omega (arith, z)) }
 
 -- the squares of two closures, and their sum
 module _ (z : ℤ) (n : ℕ) (f : n ≡ nat_abs z) (h : nat_abs z ≤ 1200000000) where
@@ -116,25 +120,31 @@ pub sizes_fit : (y z : ℤ) (n e : ℕ) → n ≡ nat_abs y → nat_abs y ≤ 12
 sizes_fit y z n e f h g k =
     record { fits = omega (arith, square_size y n f h, square_size z e g k) }
 
--- closures that stand: r is the test of the ranges, which came out true
-module _ (north east : ℤ) (s most : ℕ) (r : Bool) (t : r ≡ true)
-    (is : r ≡ (leb (nat_abs north) most && leb (nat_abs east) most && inside 1 most_sum s)) where
-  sizes : (nat_abs north ≤ most) × (nat_abs east ≤ most) × (s ≤ 1300000000)
-  unfolding inside
-  sizes =
-      let a = (and-eq-true_iff _ (inside 1 most_sum s)).0 (sym is ∙ t) in
-      let b = (and-eq-true_iff (leb (nat_abs north) most) _).0 a.0 in
-      let d = (and-eq-true_iff (leb 1 s) (leb s most_sum)).0 a.1 in
-      (leb-true _ _ b.0, leb-true _ _ b.1, leb-true _ _ d.1)
+-- closures that stand, and such as do not
+abbrev Stand : ℤ → ℤ → ℕ → ℕ → Type 0
+Stand north east s most = (nat_abs north ≤ most) × (nat_abs east ≤ most) × (1 ≤ s) × (s ≤ most_sum)
 
-  pub north_most : (m : ℕ) → T (leb most m) → nat_abs north ≤ m
-  north_most m h = le_trans sizes.0 (leb→le most m h)
+abbrev stand : ℤ → ℤ → ℕ → ℕ → Bool
+stand north east s most =
+    leb (nat_abs north) most && leb (nat_abs east) most && inside 1 most_sum s
 
-  pub east_most : (m : ℕ) → T (leb most m) → nat_abs east ≤ m
-  east_most m h = le_trans sizes.1 (leb→le most m h)
+pub standing : (north east : ℤ) (s most : ℕ) → Stand north east s most
+    → stand north east s most ≡ true
+standing north east s most h =
+    both _ _
+    (both _ _ (le-leb (nat_abs north) most h.0) (le-leb (nat_abs east) most h.1))
+    (inside_yes 1 most_sum s h.2 h.3)
 
-  pub sum_most : s ≤ 1300000000
-  sum_most = sizes.2
+pub not_standing : (north east : ℤ) (s most : ℕ) → (Stand north east s most → ⊥)
+    → stand north east s most ≡ false
+not_standing north east s most h =
+    elim (dec_le (nat_abs north) most) [
+      | yes i ↦ elim (dec_le (nat_abs east) most) [
+        | yes j ↦ not_second _ _ (outside 1 most_sum s (λ k. h (i, j, k.0, k.1)))
+        | no j ↦ not_first _ _ (not_second _ _ (lt-leb (nat_abs east) most (omega arith)))
+      ]
+      | no i ↦ not_first _ _ (not_first _ _ (lt-leb (nat_abs north) most (omega arith)))
+    ]
 
 module _ (north east : ℤ) (both s : ℕ) (b : both ≡ squares north east) where
   pub hundred_fits : nat_abs north ≤ 26000 → nat_abs east ≤ 26000 → Fits w64 (100 * both)
@@ -157,8 +167,8 @@ module _ (north east : ℤ) (both s : ℕ) (b : both ≡ squares north east) whe
       (quotient_small (squares north east) s (omega arith)))))
 
   -- the rule, of what is told: none of no closures, and else the root of the quotient
-  pub zero_told : both ≡ 0 → PrecisionTold north east s (told_count (Is 0))
-  unfolding told_count
+  pub zero_told : both ≡ 0 → PrecisionTold north east s (told_count (Ok 0))
+  unfolding told
   zero_told z =
       let w : squares north east ≡ 0 = sym b ∙ z in
       let none : Precision north east s 0 =
@@ -166,8 +176,8 @@ module _ (north east : ℤ) (both s : ℕ) (b : both ≡ squares north east) whe
       record { largest = λ u. none }
 
   pub largest_told : (r : ℕ) → WholeRoot (s * s / (100 * both)) r → (both ≡ 0 → ⊥)
-      → PrecisionTold north east s (told_count (Is r))
-  unfolding told_count
+      → PrecisionTold north east s (told_count (Ok r))
+  unfolding told
   largest_told r h z =
       let l = largest_root (squares north east) s r (omega (arith, b, z)) (rw b at h) in
       let all : Precision north east s r =
@@ -182,6 +192,14 @@ module _ (north east : ℤ) (both s : ℕ) (b : both ≡ squares north east) whe
   pub closes_no : s * s / 2500000000 < both → closes north east s ≡ false
   unfolding closes
   closes_no h = lt-leb (50000 * 50000 * squares north east) (s * s) (omega (arith, b))
+
+  pub closes_is : leb both (s * s / 2500000000) ≡ closes north east s
+  closes_is =
+      elim (dec_le both (s * s / 2500000000)) [
+        | yes h ↦ rw (le-leb both (s * s / 2500000000) h) (sym (closes_yes h))
+        | no h ↦
+            rw (lt-leb both (s * s / 2500000000) (omega arith)) (sym (closes_no (omega arith)))
+      ]
 
 -- so the precision number is the root that the digit-by-digit method finds
 pub precision_worked : (north east : ℤ) (s : ℕ) → (squares north east ≡ 0 → ⊥) → s ≤ 1300000000

@@ -2,15 +2,14 @@
 -- determines the answer.
 use mathlib.Core.Path.{◌≡◌, refl, sym, ◌∙◌, ap}
 use mathlib.Core.List.{List}
+use mathlib.Core.Bool.{Bool}
 use Prim.Native.Nat.{ℕ}
 use native.Mathlib.Omega.{arith}
 use lib.IntN.{ℤ}
-use Rattle.answer.specs.Told.{ToldStep, told_amount, told_count, told_verdict}
-use Rattle.answer.specs.declared.Amount.{Amount}
-use Rattle.answer.specs.declared.Count.{Count}
-use Rattle.answer.specs.declared.Verdict.{Verdict}
+use Rattle.std.proofs.Common.{Result, Ok, Err}
+use Rattle.answer.specs.Told.{ToldStep, told, told_amount, told_count, told_verdict}
+use Rattle.answer.specs.declared.OutOfRange.{OutOfRange}
 use Rattle.whole.specs.declared.Whole.{Whole}
-use Rattle.whole.proofs.Single.{whole_single}
 use Rattle.answer.proofs.Single.{amounts_coincide, counts_coincide, verdicts_coincide}
 use Rattle.steps.specs.Distance.{sea_level_step, combine_step, grid_step}
 use Rattle.steps.specs.Azimuth.{from_mark_step, onward_step, misclosure_step, misclosure_test}
@@ -19,12 +18,11 @@ use Rattle.steps.specs.Share.{share_step, angle_share_step}
 use Rattle.steps.specs.Course.{Axis, north as Axis·north, east as Axis·east, course_step}
 use Rattle.steps.specs.Course.{told_move}
 use Rattle.steps.specs.declared.course.Moves.{Moves}
-use Rattle.steps.specs.declared.course.Moves.TheVariants.{Are, OutOfRange}
 use Rattle.steps.specs.Closure.{closure_test, precision_step}
 use Rattle.steps.specs.Area.{area_step}
 
 -- `sea_level`, `combine`, `grid`, `from_mark`, `onward`, `balanced` and `precision`
-module _ (x y : Count) where
+module _ (x y : Result ℕ OutOfRange) where
   pub sea_level_single : (elevation : ℤ) → told_count x ≡ sea_level_step elevation
       → told_count y ≡ sea_level_step elevation → x ≡ y
   sea_level_single elevation = counts_coincide (sea_level_step elevation) x y
@@ -54,7 +52,7 @@ module _ (x y : Count) where
   precision_single north east s = counts_coincide (precision_step north east s) x y
 
 -- `misclosure`, `share`, `angle_share` and `doubled_area`, and between them the moves
-module _ (x y : Amount) where
+module _ (x y : Result Whole OutOfRange) where
   pub misclosure_single : (carried given : ℕ) → told_amount x ≡ misclosure_step carried given
       → told_amount y ≡ misclosure_step carried given → x ≡ y
   misclosure_single carried given = amounts_coincide (misclosure_step carried given) x y
@@ -80,30 +78,26 @@ module _ (x y : Amount) where
   doubled_area_single offsets = amounts_coincide (area_step offsets) x y
 
 -- `moves_in`: what is told along both axes
-pub moves_single : (e : ℕ → ℤ) (distance azimuth : ℕ) (x y : Moves)
+pub moves_single : (e : ℕ → ℤ) (distance azimuth : ℕ) (x y : Result Moves OutOfRange)
     → ((axis : Axis) → told_move axis x ≡ course_step e axis distance azimuth)
     → ((axis : Axis) → told_move axis y ≡ course_step e axis distance azimuth) → x ≡ y
-unfolding told_move
+unfolding told
 moves_single e distance azimuth x y p q = one_moves x y (λ axis. p axis ∙ sym (q axis))
   where
-    one_moves : (x y : Moves) → ((axis : Axis) → told_move axis x ≡ told_move axis y) → x ≡ y
-    one_moves OutOfRange OutOfRange p = refl
-    one_moves OutOfRange (Are k l) p =
+    one_moves : (x y : Result Moves OutOfRange)
+        → ((axis : Axis) → told_move axis x ≡ told_move axis y) → x ≡ y
+    one_moves (Err _) (Err _) p = refl
+    one_moves (Err _) (Ok n) p =
         absurd (omega (arith, ap (λ (z : ToldStep). z.number) (p Axis·north)))
-    one_moves (Are m n) OutOfRange p =
+    one_moves (Ok m) (Err _) p =
         absurd (omega (arith, ap (λ (z : ToldStep). z.number) (p Axis·north)))
-    one_moves (Are m n) (Are k l) p =
-        ap (λ (v : ℤ). Are (record { v = v }) n) (ap (λ (z : ToldStep). z.value) (p Axis·north))
-        ∙ ap (λ (v : ℤ). Are k (record { v = v }))
-        (ap (λ (z : ToldStep). z.value) (p Axis·east))
-
--- `Moves::north` and `Moves::east`, each along its axis
-pub move_single : (axis : Axis) (m : Moves) (x y : Whole) → x.v ≡ (told_move axis m).value
-    → y.v ≡ (told_move axis m).value → x ≡ y
-move_single axis m = whole_single (told_move axis m).value
+    one_moves (Ok m) (Ok n) p =
+        let value = λ (axis : Axis). ap (λ (z : ToldStep). z.value) (p axis) in
+        ap (λ (v : ℤ). Ok (record { north = record { v = v }; east = m.east })) (value Axis·north)
+        ∙ ap (λ (v : ℤ). Ok (record { north = n.north; east = record { v = v } })) (value Axis·east)
 
 -- `closes_angles` and `closes`
-module _ (x y : Verdict) where
+module _ (x y : Result Bool OutOfRange) where
   pub closes_angles_single : (w : ℤ) (n : ℕ) → told_verdict x ≡ misclosure_test w n
       → told_verdict y ≡ misclosure_test w n → x ≡ y
   closes_angles_single w n = verdicts_coincide (misclosure_test w n) x y

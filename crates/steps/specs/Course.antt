@@ -1,13 +1,12 @@
 -- docs/RULES.md, "Azimuths and legs": latitude and departure, how far a leg moves north and east,
 -- in hundredths of a foot.
-use Rattle.std.specs.Prelude.{◌&&◌, ℕ, leb, ltb, ℤ, pos, neg_ℤ, ◌*ℤ◌}
+use Rattle.std.specs.Prelude.{◌&&◌, Result, ℕ, leb, ltb, ℤ, pos, neg_ℤ, ◌*ℤ◌}
 use Rattle.whole.specs.Nearest.{nearest}
-use Rattle.answer.specs.Refusal.{out_of_range}
-use Rattle.answer.specs.Told.{ToldStep, given, refused, in_range}
+use Rattle.answer.specs.Told.{ToldStep, told, in_range}
+use Rattle.answer.specs.declared.OutOfRange.{OutOfRange}
 use Rattle.minutes.specs.Quadrant.{circle}
 use Rattle.sines.specs.Sine.{sine_by, cosine_by}
 use Rattle.steps.specs.declared.course.Moves.{Moves}
-use Rattle.steps.specs.declared.course.Moves.TheVariants.{Are, OutOfRange}
 
 -- northing and easting differ in the sine that counts
 pub data Axis : Type 0 where
@@ -44,8 +43,10 @@ of_leg distance azimuth z = in_range (leb distance most_grid && ltb azimuth circ
 abbrev pub course_step : (ℕ → ℤ) → Axis → ℕ → ℕ → ToldStep
 course_step e axis distance azimuth = of_leg distance azimuth (course e axis distance azimuth)
 
--- ---- both moves of a leg at once: what is told along each axis
-unfoldable pub told_move : Axis → Moves → ToldStep
-told_move axis OutOfRange = refused out_of_range 0
-told_move north (Are n e) = given n.v
-told_move east (Are n e) = given e.v
+-- ---- both moves of a leg at once: the one along an axis, and what is told of it
+abbrev pub move_along : Axis → Moves → ℤ
+move_along north m = m.north.v
+move_along east m = m.east.v
+
+abbrev pub told_move : Axis → Result Moves OutOfRange → ToldStep
+told_move axis = told (move_along axis)

@@ -4,9 +4,9 @@ ghost use Rattle.std.specs.Prelude.{◌≡◌};
 ghost use Rattle.answer.specs.Told.{told_count};
 ghost use Rattle.steps.specs.Distance.{sea_level_step, combine_step, grid_step};
 
-use crate::wide;
-use answer::Count;
-use answer::limit::{HIGHEST, LOWEST};
+use crate::range::{at_most, inside};
+use answer::OutOfRange;
+use answer::limit::{HIGHEST, LEAST_DISTANCE, LEAST_FACTOR, LOWEST, MOST_DISTANCE, MOST_FACTOR};
 use whole::Whole;
 
 // "factors in ten-millionths": a factor of 1.
@@ -20,62 +20,38 @@ const MEAN_RADIUS: u64 = 20_906_000;
 const RADIUS_BY_UNIT: u64 = MEAN_RADIUS * UNIT_FACTOR;
 
 // "a combined factor of 9,980,000..10,020,010": the least.
-const LEAST_COMBINED: u64 = 9_980_000;
+const LEAST_COMBINED: u32 = 9_980_000;
 
 // "a combined factor of 9,980,000..10,020,010": the most.
-const MOST_COMBINED: u64 = 10_020_010;
+const MOST_COMBINED: u32 = 10_020_010;
 
 // The sea level factor of a mean elevation in feet.
-pub fn sea_level(elevation: Whole) -> Count
+pub fn sea_level(elevation: Whole) -> Result<u64, OutOfRange>
     ensures { told_count result ≡ sea_level_step elevation.v }
 {
     let feet = elevation.size();
     if elevation.below_zero() {
-        if LOWEST < feet {
-            return Count::OutOfRange;
-        }
-        return Count::Is(whole::half_up(RADIUS_BY_UNIT, MEAN_RADIUS - feet));
+        at_most(LOWEST as u32, feet)?;
+        return Ok(whole::half_up(RADIUS_BY_UNIT, MEAN_RADIUS - feet));
     }
-    if HIGHEST < feet {
-        return Count::OutOfRange;
-    }
-    Count::Is(whole::half_up(RADIUS_BY_UNIT, MEAN_RADIUS + feet))
+    at_most(HIGHEST as u32, feet)?;
+    Ok(whole::half_up(RADIUS_BY_UNIT, MEAN_RADIUS + feet))
 }
 
 // The sea level factor and the row's scale factor in one: their product.
-pub fn combine(sea: u64, scale: u64) -> Count
+pub fn combine(sea: u64, scale: u64) -> Result<u64, OutOfRange>
     ensures { told_count result ≡ combine_step sea scale }
 {
-    if sea < wide::LEAST_FACTOR {
-        return Count::OutOfRange;
-    }
-    if wide::MOST_FACTOR < sea {
-        return Count::OutOfRange;
-    }
-    if scale < wide::LEAST_FACTOR {
-        return Count::OutOfRange;
-    }
-    if wide::MOST_FACTOR < scale {
-        return Count::OutOfRange;
-    }
-    Count::Is(whole::half_up(sea * scale, UNIT_FACTOR))
+    inside(LEAST_FACTOR, MOST_FACTOR, sea)?;
+    inside(LEAST_FACTOR, MOST_FACTOR, scale)?;
+    Ok(whole::half_up(sea * scale, UNIT_FACTOR))
 }
 
 // The grid distance of a measured one.
-pub fn grid(distance: u64, factor: u64) -> Count
+pub fn grid(distance: u64, factor: u64) -> Result<u64, OutOfRange>
     ensures { told_count result ≡ grid_step distance factor }
 {
-    if distance < wide::LEAST_DISTANCE {
-        return Count::OutOfRange;
-    }
-    if wide::MOST_DISTANCE < distance {
-        return Count::OutOfRange;
-    }
-    if factor < LEAST_COMBINED {
-        return Count::OutOfRange;
-    }
-    if MOST_COMBINED < factor {
-        return Count::OutOfRange;
-    }
-    Count::Is(whole::half_up(distance * factor, UNIT_FACTOR))
+    inside(LEAST_DISTANCE, MOST_DISTANCE, distance)?;
+    inside(LEAST_COMBINED, MOST_COMBINED, factor)?;
+    Ok(whole::half_up(distance * factor, UNIT_FACTOR))
 }

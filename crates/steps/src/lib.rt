@@ -1,7 +1,6 @@
 // The arithmetic steps of docs/RULES.md, a module for each subject. Each takes any input: where it
-// is out of the range stated with the step, the answer tells 4, place 0. The private module `root`
-// is no step: it has the root of the precision number. The private module `wide` has the limits and
-// the circle of the crates below as 64-bit numbers.
+// is out of the range stated with the step, the answer tells 4, place 0. Two private modules are no
+// steps: `range` has the tests of the ranges, and `root` the root of the precision number.
 #![tactic(auto)]
 
 pub mod area;
@@ -9,6 +8,6 @@ pub mod azimuth;
 pub mod closure;
 pub mod course;
 pub mod distance;
+mod range;
 mod root;
 pub mod share;
-mod wide;

@@ -7,8 +7,10 @@ ghost use Rattle.steps.specs.Closure.{most_sum};
 ghost use Rattle.steps.specs.Share.{share as Share·share, share_step, angle_share_step};
 
 use crate::closure::{MOST_CLOSURE, MOST_SUM};
-use crate::wide;
-use answer::Amount;
+use crate::range::{at_most, inside};
+use answer::OutOfRange;
+use answer::limit::MOST_LEGS;
+use minutes::quadrant::HALF_CIRCLE;
 use whole::Whole;
 
 // The share of a total at a part of a whole. The total's size is shared, and its sign put back.
@@ -27,39 +29,25 @@ fn share_of(total: Whole, part: u64, whole: u64) -> Whole
 
 // The share of a closure at a station: the part is the distance run so far, the whole the sum of
 // grid distances.
-pub fn share(closure: Whole, part: u64, whole: u64) -> Amount
+pub fn share(closure: Whole, part: u64, whole: u64) -> Result<Whole, OutOfRange>
     ensures { told_amount result ≡ share_step closure.v part whole }
 {
-    if MOST_CLOSURE < closure.size() {
-        return Amount::OutOfRange;
-    }
-    if whole < 1 {
-        return Amount::OutOfRange;
-    }
-    if MOST_SUM < whole {
-        return Amount::OutOfRange;
-    }
+    at_most(MOST_CLOSURE, closure.size())?;
+    inside(1, MOST_SUM, whole)?;
     if whole < part {
-        return Amount::OutOfRange;
+        return Err(OutOfRange);
     }
-    Amount::Is(share_of(closure, part, whole))
+    Ok(share_of(closure, part, whole))
 }
 
 // The share of a misclosure at the j-th of n + 1 angles.
-pub fn angle_share(w: Whole, j: u64, n: u64) -> Amount
+pub fn angle_share(w: Whole, j: u64, n: u64) -> Result<Whole, OutOfRange>
     ensures { told_amount result ≡ angle_share_step w.v j n }
 {
-    if wide::HALF_CIRCLE < w.size() {
-        return Amount::OutOfRange;
-    }
-    if n < 1 {
-        return Amount::OutOfRange;
-    }
-    if wide::MOST_LEGS < n {
-        return Amount::OutOfRange;
-    }
+    at_most(HALF_CIRCLE, w.size())?;
+    inside(1, MOST_LEGS as u32, n)?;
     if n + 1 < j {
-        return Amount::OutOfRange;
+        return Err(OutOfRange);
     }
-    Amount::Is(share_of(w, j, n + 1))
+    Ok(share_of(w, j, n + 1))
 }

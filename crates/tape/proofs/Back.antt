@@ -21,14 +21,14 @@ use Rattle.records.specs.Bytes.{twos_complement, capacity, meant, written}
 use Rattle.records.specs.Record.{Field, Kind, Rec, table, look, kind_fields, total, numbers}
 use Rattle.records.specs.Record.{in_ranges}
 use Rattle.records.specs.Record.{spell, body_of, good_of, bytes_of, numbers_of}
-use Rattle.tape.specs.Tape.{Next, walk, step_of, judge, start, reading_of, records_from}
+use Rattle.tape.specs.Tape.{walk, step_of, judge, start, reading_of, records_from}
 use Rattle.tape.specs.Tape.{records_of, tape_of, run_of, fields_read}
 use Rattle.tape.specs.declared.State.{State}
-use Rattle.tape.specs.declared.Reading.TheVariants.{Reads}
 use Rattle.tape.proofs.Numbers.{num_drop}
 use Rattle.tape.proofs.Walk.{passed}
 use Rattle.whole.proofs.Branch.{by_test}
 use Rattle.tape.proofs.Round.{reads_next}
+use Rattle.std.specs.Prelude.{Ok}
 
 -- ---- what a field can write: the numbers above its floor and below its ceiling
 abbrev floor : Coding → Width → ℤ
@@ -178,7 +178,7 @@ module _ (k : ℕ) (vs : List ℤ) (l : List ℕ) (good : good_of k vs ≡ true)
       omega (arith, length-append (bytes_of k vs) l, length_body) in
       rw (lt-ltb _ _ whole, numbers_back)
 
-  walk_back : (st st' : State) (at : ℕ) → Next st' ≡ judge st k true vs
+  walk_back : (st st' : State) (at : ℕ) → Ok st' ≡ judge st k true vs
       → walk st at 0 (bytes_of k vs ++ l) ≡ walk st' (at + 1 + body_of k) 0 l
   unfolding walk bytes_of
   walk_back st st' at e =
@@ -192,8 +192,8 @@ module _ (k : ℕ) (vs : List ℤ) (l : List ℕ) (good : good_of k vs ≡ true)
   records_back = rw (numbers_back, ← length_body, (past (spell (kind_fields k) vs) l).1)
 
 -- ---- the tape
-back_from : (rs : List Rec) (st : State) (at : ℕ) (a : State) → run_of st at rs ≡ Reads a
-    → (walk st at 0 (tape_of rs) ≡ Reads a) × (records_from 0 (tape_of rs) ≡ rs)
+back_from : (rs : List Rec) (st : State) (at : ℕ) (a : State) → run_of st at rs ≡ Ok a
+    → (walk st at 0 (tape_of rs) ≡ Ok a) × (records_from 0 (tape_of rs) ≡ rs)
 unfolding run_of tape_of
 back_from [] st at a e = unfold walk records_from in (e, refl)
 back_from (r ∷ rs) st at a e =
@@ -207,7 +207,7 @@ back_from (r ∷ rs) st at a e =
     )
 
 -- fields that no refusal tried before 8 meets, written as a tape, read back as the same fields
-pub same_records : (rs : List Rec) (a : State) → fields_read rs ≡ Reads a
-    → (reading_of (tape_of rs) ≡ Reads a) × (records_of (tape_of rs) ≡ rs)
+pub same_records : (rs : List Rec) (a : State) → fields_read rs ≡ Ok a
+    → (reading_of (tape_of rs) ≡ Ok a) × (records_of (tape_of rs) ≡ rs)
 unfolding reading_of
 same_records rs a e = back_from rs start 0 a e

@@ -1,5 +1,6 @@
 pub mod Back
 pub mod Coming
+pub mod Laws
 pub mod Legs
 pub mod Longest
 pub mod Numbers

@@ -7,25 +7,26 @@ use native.Mathlib.Omega.{arith, not-le}
 use mathlib.Core.Path.{◌≡◌, refl}
 use mathlib.Core.List.{List, [], ◌∷◌, ◌++◌}
 use mathlib.Core.Logic.{⊎_elim}
-use mathlib.Core.Bool.{true, cond, ◌||◌}
-use lib.Dec.{eqb}
+use mathlib.Core.Bool.{Bool, true, false}
 use lib.IntN.{ℤ}
 use lib.ListN.{length, length-append, get_or-append}
 use borrow.Author.Tests.{lt-ltb}
 use Rattle.records.specs.Bytes.{Width, two, four, byte_count, num}
 use Rattle.records.specs.Record.{Field, table, kind_fields, total, numbers, numbers_of, body_of}
 use Rattle.answer.specs.Limit.{most_legs}
-use Rattle.tape.specs.Tape.{most_rows, at_rows, after_project, line_begun, after_leg}
-use Rattle.tape.specs.Tape.{Step, Next, Stop, is_leg, may_come, room_of, take_of, judge, step_of}
+use Rattle.tape.specs.Tape.{most_rows}
+use Rattle.tape.specs.Tape.{is_leg, may_come, room_of, take_of, judge, step_of}
 use Rattle.tape.specs.Tape.{on_step, walk, start, reading_of}
 use Rattle.tape.specs.Passing.{InLine}
 use Rattle.tape.specs.declared.State.{State}
-use Rattle.tape.specs.declared.Reading.{Reading}
-use Rattle.tape.specs.declared.Reading.TheVariants.{Refused, Reads}
-use Rattle.whole.proofs.Branch.{by_test}
 use Rattle.tape.proofs.Coming.{Due, Came, due, came}
 use Rattle.tape.proofs.Coming as by
 use Rattle.tape.proofs.Picks.{by_leg}
+use Rattle.std.specs.Prelude.{Option, Some, None, Result, Ok, Err}
+use Rattle.answer.specs.declared.Refusal.{Refusal}
+use Rattle.answer.specs.declared.Refused.{Refused}
+use Rattle.tape.specs.declared.Phase.{Phase}
+use Rattle.tape.specs.declared.Phase.TheVariants.{AtRows, AfterProject, LineBegun, AfterLeg, Closed}
 
 -- the most bytes of a leg, of all from the first leg on, and of a tape
 abbrev leg_bytes : ℕ
@@ -38,12 +39,12 @@ abbrev pub longest : ℕ
 longest = 7 * most_rows + (5 + (13 + line_bytes))
 
 -- ---- the most bytes that can still be taken
-unfoldable ahead_in : ℕ → State → ℕ
-ahead_in phase st =
-    cond (eqb phase at_rows) (7 * (most_rows - st.rows) + (5 + (13 + line_bytes)))
-    (cond (eqb phase after_project) (13 + line_bytes)
-    (cond (eqb phase line_begun || eqb phase after_leg) (leg_bytes * (most_legs - st.legs) + 17)
-    0))
+unfoldable ahead_in : Phase → State → ℕ
+ahead_in AtRows st = 7 * (most_rows - st.rows) + (5 + (13 + line_bytes))
+ahead_in AfterProject st = 13 + line_bytes
+ahead_in LineBegun st = leg_bytes * (most_legs - st.legs) + 17
+ahead_in AfterLeg st = leg_bytes * (most_legs - st.legs) + 17
+ahead_in Closed st = 0
 
 abbrev ahead : State → ℕ
 ahead st = ahead_in st.phase st
@@ -98,7 +99,7 @@ numbers_more (f ∷ fs) l r k h =
 
 -- ---- a record at the front
 -- one that is taken leaves so many fewer
-step_ahead : (st u : State) (x : ℕ) (l : List ℕ) → Next u ≡ step_of st (x ∷ l)
+step_ahead : (st u : State) (x : ℕ) (l : List ℕ) → Ok u ≡ step_of st (x ∷ l)
     → body_of x + ahead u < ahead st
 unfolding step_of
 step_ahead st u x l e = came_ahead st x _ u (came st u x _ _ e)
@@ -107,33 +108,34 @@ step_ahead st u x l e = came_ahead st x _ u (came st u x _ _ e)
 step_more : (st : State) (x : ℕ) (l r : List ℕ) → ahead st ≤ length l
     → step_of st (x ∷ l ++ r) ≡ step_of st (x ∷ l)
 unfolding step_of judge take_of numbers_of body_of
-step_more st x l r h =
-    let P : Step → Type 0 = λ s. s ≡ step_of st (x ∷ l) in
-    by_test P (may_come st x)
-    (λ m. by_test P (eqb (room_of st x) 0)
-    (λ o. let low = due_ahead st x (due st x m o) in
-    rw (
-      m,
-      o,
-      lt-ltb (body_of x) (length (x ∷ l)) (omega arith),
-      lt-ltb (body_of x) (length (x ∷ l ++ r)) (omega (arith, length-append l r)),
-      numbers_more (kind_fields x) (x ∷ l) r 1 (omega arith),
-    ))
-    (λ o. rw (m, o)))
-    (λ m. rw m)
+step_more st x l r h = go (may_come st x) refl (room_of st x) refl
+  where
+    go : (m : Bool) → may_come st x ≡ m → (o : Option Refusal) → room_of st x ≡ o
+        → step_of st (x ∷ l ++ r) ≡ step_of st (x ∷ l)
+    go true m None o =
+        let low = due_ahead st x (due st x m o) in
+        rw (
+          m,
+          o,
+          lt-ltb (body_of x) (length (x ∷ l)) (omega arith),
+          lt-ltb (body_of x) (length (x ∷ l ++ r)) (omega (arith, length-append l r)),
+          numbers_more (kind_fields x) (x ∷ l) r 1 (omega arith),
+        )
+    go true m (Some n) o = rw (m, o)
+    go false m q o = rw m
 
 -- ---- the walk
 -- two readings that are the same refusal
-pub record Alike (a b : Reading) : Type 0 where
-  pub number : ℕ
-  pub place : ℕ
-  pub short : a ≡ Refused number place
-  pub whole : b ≡ Refused number place
+pub record Alike (a b : Result State Refused) : Type 0 where
+  pub refused : Refused
+  pub short : a ≡ Err refused
+  pub whole : b ≡ Err refused
 
-step_alike : (s : Step) (at : ℕ) (f g : State → Reading)
-    → ((u : State) → Next u ≡ s → Alike (f u) (g u)) → Alike (on_step s at f) (on_step s at g)
-step_alike (Next u) at f g h = h u refl
-step_alike (Stop n) at f g h = record { number = n; place = at; short = refl; whole = refl }
+step_alike : (s : Result State Refusal) (at : ℕ) (f g : State → Result State Refused)
+    → ((u : State) → Ok u ≡ s → Alike (f u) (g u)) → Alike (on_step s at f) (on_step s at g)
+step_alike (Ok u) at f g h = h u refl
+step_alike (Err n) at f g h =
+    record { refused = record { refusal = n; place = at }; short = refl; whole = refl }
 
 walk_alike : (st : State) (at n : ℕ) (l r : List ℕ) → n + ahead st < length l
     → Alike (walk st at n l) (walk st at n (l ++ r))
@@ -149,12 +151,11 @@ unfolding reading_of ahead_in
 long_cut l r h = walk_alike start 0 0 l r h
 
 -- so a tape that reads is no longer
-pub longest_tape : (tape : List ℕ) (last : State) → reading_of tape ≡ Reads last
+pub longest_tape : (tape : List ℕ) (last : State) → reading_of tape ≡ Ok last
     → length tape ≤ longest
 longest_tape tape last e = omega (arith, not-le (longest + 1) (length tape) no_longer)
   where
     no_longer : ¬ (longest + 1 ≤ length tape)
     no_longer h =
         let r = long_cut tape [] (omega arith) in
-        let z : ◌≡◌ {A = ℕ} 0 1 = cc in
-        omega arith
+        cc

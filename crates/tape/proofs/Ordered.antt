@@ -3,7 +3,7 @@
 use Prim.Native.Nat.{ℕ, ◌+◌, ◌≤◌, ◌<◌}
 use native.Mathlib.Omega.{arith}
 use mathlib.Core.Path.{◌≡◌, refl, sym, ◌∙◌, ap}
-use mathlib.Core.Bool.{true, false}
+use mathlib.Core.Bool.{true}
 use mathlib.Core.Logic.{⊎_elim, inl, inr}
 use mathlib.Core.List.{List, [], ◌∷◌}
 use lib.Dec.{eqb}
@@ -11,7 +11,7 @@ use lib.IntN.{ℤ}
 use lib.ListN.{length}
 use borrow.Author.Tests.{eq-eqb}
 use Rattle.records.specs.Record.{Rec, row_kind, project_kind, start_kind, close_kind}
-use Rattle.tape.specs.Tape.{at_rows, after_project, line_begun, after_leg, closed, is_leg}
+use Rattle.tape.specs.Tape.{is_leg}
 use Rattle.tape.specs.Tape.{in_phase, with_row, minute_of, start, records_of}
 use Rattle.tape.specs.Fields.{number_at, pick, only, DoesRead}
 use Rattle.tape.specs.Legs.{Legs, last, leg, Order, row as a_row, opens}
@@ -22,25 +22,26 @@ use Rattle.tape.proofs.Coming.{came}
 use Rattle.tape.proofs.Picks.{pick_yes, pick_no, apart_leg, skips, only_first}
 use Rattle.tape.proofs.Round.{lawful}
 use Rattle.tape.proofs.Rows.{Runs, done, more, runs}
-use Rattle.tape.proofs.Walk.{no}
+use Rattle.tape.specs.declared.Phase.{Phase}
+use Rattle.tape.specs.declared.Phase.TheVariants.{AtRows, AfterProject, LineBegun, AfterLeg, Closed}
 
 -- a state in the line is in no other phase
-not_in : (st : State) {A : Type 0} {p : ℕ} → InLine st → st.phase ≡ p → eqb p line_begun ≡ false
-    → eqb p after_leg ≡ false → A
+not_in : (st : State) {A : Type 0} {p : Phase} → InLine st → st.phase ≡ p → (p ≡ LineBegun → ⊥)
+    → (p ≡ AfterLeg → ⊥) → A
 not_in st h e a b =
-    ⊎_elim (λ (x : st.phase ≡ line_begun). no (sym a ∙ eq-eqb _ _ (sym e ∙ x)))
-    (λ (x : st.phase ≡ after_leg). no (sym b ∙ eq-eqb _ _ (sym e ∙ x)))
+    ⊎_elim (λ (x : st.phase ≡ LineBegun). absurd (a (sym e ∙ x)))
+    (λ (x : st.phase ≡ AfterLeg). absurd (b (sym e ∙ x)))
     h
 
 -- ---- after the close nothing comes
-no_more : {st u : State} {k : ℕ} {vs : List ℤ} → Came st k vs u → st.phase ≡ closed → ⊥
-no_more (row k p f n e) h = omega arith
-no_more (project k p i e) h = omega arith
-no_more (begins k p e) h = omega arith
-no_more {st} (a_leg k p f e) h = not_in st p h refl refl
-no_more (close k p e) h = omega arith
+no_more : {st u : State} {k : ℕ} {vs : List ℤ} → Came st k vs u → st.phase ≡ Closed → ⊥
+no_more (row k p f n e) h = cc
+no_more (project k p i e) h = cc
+no_more (begins k p e) h = cc
+no_more {st} (a_leg k p f e) h = not_in st p h (λ x. cc) (λ x. cc)
+no_more (close k p e) h = cc
 
-ends : {st u : State} {rs : List Rec} → Runs st rs u → st.phase ≡ closed → (rs ≡ []) × (st ≡ u)
+ends : {st u : State} {rs : List Rec} → Runs st rs u → st.phase ≡ Closed → (rs ≡ []) × (st ≡ u)
 ends done h = (refl, refl)
 ends (more {st} {st'} {r = r} e p) h = absurd (no_more (came st st' r.kind true r.values e) h)
 
@@ -87,13 +88,13 @@ lined_by {st} {u} {end} {r} {rs} (a_leg k p f e) h run ih =
     line_leg st u end r rs k f (rw e) (rw e) (rw e) (ih (inr (rw e)))
 lined_by {st} {u} {end} {r} {rs} (close k p e) h run ih =
     let i = ends run (rw e) in line_close st u end r rs k (rw e) (rw e) (rw e) i.0 i.1
-lined_by {st} (row k p f n e) h run ih = not_in st h p refl refl
-lined_by {st} (project k p i e) h run ih = not_in st h p refl refl
-lined_by {st} (begins k p e) h run ih = not_in st h p refl refl
+lined_by {st} (row k p f n e) h run ih = not_in st h p (λ x. cc) (λ x. cc)
+lined_by {st} (project k p i e) h run ih = not_in st h p (λ x. cc) (λ x. cc)
+lined_by {st} (begins k p e) h run ih = not_in st h p (λ x. cc) (λ x. cc)
 
-lined : {st end : State} {rs : List Rec} → Runs st rs end → end.phase ≡ closed → InLine st
+lined : {st end : State} {rs : List Rec} → Runs st rs end → end.phase ≡ Closed → InLine st
     → Lined st rs end
-lined {st} done e h = not_in st h e refl refl
+lined {st} done e h = not_in st h e (λ x. cc) (λ x. cc)
 lined (more {st} {st'} {r = r} e p) f h =
     lined_by (came st st' r.kind true r.values e) h p (lined p f)
 
@@ -107,18 +108,18 @@ record Started (st : State) (rs : List Rec) (end : State) : Type 0 where
   lined : Lined st rs end
 
 started_by : {st u end : State} {r : Rec} {rs : List Rec} → Came st r.kind r.values u
-    → st.phase ≡ line_begun → Lined st (r ∷ rs) end
+    → st.phase ≡ LineBegun → Lined st (r ∷ rs) end
     → (InLine u → Lined u rs end) → Started st (r ∷ rs) end
 started_by {r = r} {rs} (a_leg k p f e) h i ih =
     record { l = r; ls = rs; is = refl; leg = k; rest = (ih (inr (rw e))).legs; lined = i }
-started_by (close k p e) h i ih = absurd (omega arith)
-started_by (row k p f n e) h i ih = absurd (omega arith)
-started_by (project k p n e) h i ih = absurd (omega arith)
-started_by (begins k p e) h i ih = absurd (omega arith)
+started_by (close k p e) h i ih = cc
+started_by (row k p f n e) h i ih = cc
+started_by (project k p n e) h i ih = cc
+started_by (begins k p e) h i ih = cc
 
-started : {st end : State} {rs : List Rec} → Runs st rs end → end.phase ≡ closed
-    → st.phase ≡ line_begun → Started st rs end
-started done e h = absurd (omega arith)
+started : {st end : State} {rs : List Rec} → Runs st rs end → end.phase ≡ Closed
+    → st.phase ≡ LineBegun → Started st rs end
+started done e h = cc
 started (more {st} {st'} {r = r} e p) f h =
     started_by (came st st' r.kind true r.values e) h (lined (more e p) f (inl h)) (lined p f)
 
@@ -128,22 +129,22 @@ record Begun (st : State) (rs : List Rec) (end : State) : Type 0 where
   is : rs ≡ s ∷ ss
   kind : s.kind ≡ start_kind
   u : State
-  same : u ≡ in_phase line_begun st
+  same : u ≡ in_phase LineBegun st
   started : Started u ss end
 
 begun_by : {st u end : State} {r : Rec} {rs : List Rec} → Came st r.kind r.values u
-    → st.phase ≡ after_project
-    → (u.phase ≡ line_begun → Started u rs end) → Begun st (r ∷ rs) end
+    → st.phase ≡ AfterProject
+    → (u.phase ≡ LineBegun → Started u rs end) → Begun st (r ∷ rs) end
 begun_by {u = u} {r = r} {rs} (begins k p e) h i =
     record { s = r; ss = rs; is = refl; kind = k; u = u; same = e; started = i (rw e) }
-begun_by {st} (a_leg k p f e) h i = not_in st p h refl refl
-begun_by (close k p e) h i = absurd (omega arith)
-begun_by (row k p f n e) h i = absurd (omega arith)
-begun_by (project k p n e) h i = absurd (omega arith)
+begun_by {st} (a_leg k p f e) h i = not_in st p h (λ x. cc) (λ x. cc)
+begun_by (close k p e) h i = cc
+begun_by (row k p f n e) h i = cc
+begun_by (project k p n e) h i = cc
 
-begun : {st end : State} {rs : List Rec} → Runs st rs end → end.phase ≡ closed
-    → st.phase ≡ after_project → Begun st rs end
-begun done e h = absurd (omega arith)
+begun : {st end : State} {rs : List Rec} → Runs st rs end → end.phase ≡ Closed
+    → st.phase ≡ AfterProject → Begun st rs end
+begun done e h = cc
 begun (more {st} {st'} {r = r} e p) f h =
     begun_by (came st st' r.kind true r.values e) h (started p f)
 
@@ -182,7 +183,7 @@ module _ (st u end : State) (r : Rec) (rs : List Rec) where
         held = rw (skips (eqb project_kind) row_kind r rs five refl) i.held;
       }
 
-  order_opens : r.kind ≡ project_kind → In st (minute_of r.values) → u ≡ in_phase after_project st
+  order_opens : r.kind ≡ project_kind → In st (minute_of r.values) → u ≡ in_phase AfterProject st
       → Begun u rs end
       → Ordered st (r ∷ rs) end
   order_opens one held e b =
@@ -191,7 +192,7 @@ module _ (st u end : State) (r : Rec) (rs : List Rec) where
       let s = b.s in
       let l = g.l in
       let all : rs ≡ s ∷ l ∷ g.ls = b.is ∙ rw g.is in
-      let same : b.u ≡ in_phase line_begun st = b.same ∙ rw e in
+      let same : b.u ≡ in_phase LineBegun st = b.same ∙ rw e in
       let legs = ap (λ (x : State). x.legs) same in
       let rows = ap (λ (x : State). x.rows) same in
       let next = ap (λ (x : State). x.next) same in
@@ -219,20 +220,20 @@ module _ (st u end : State) (r : Rec) (rs : List Rec) where
       }
 
 ordered_by : {st u end : State} {r : Rec} {rs : List Rec} → Came st r.kind r.values u
-    → st.phase ≡ at_rows
-    → (u.phase ≡ at_rows → Ordered u rs end) → (u.phase ≡ after_project → Begun u rs end)
+    → st.phase ≡ AtRows
+    → (u.phase ≡ AtRows → Ordered u rs end) → (u.phase ≡ AfterProject → Begun u rs end)
     → Ordered st (r ∷ rs) end
 ordered_by {st} {u} {end} {r} {rs} (row k p f n e) h rows opened =
     order_row st u end r rs k n e (rows (rw e))
 ordered_by {st} {u} {end} {r} {rs} (project k p i e) h rows opened =
     order_opens st u end r rs k i e (opened (rw e))
-ordered_by (begins k p e) h rows opened = absurd (omega arith)
-ordered_by {st} (a_leg k p f e) h rows opened = not_in st p h refl refl
-ordered_by (close k p e) h rows opened = absurd (omega arith)
+ordered_by (begins k p e) h rows opened = cc
+ordered_by {st} (a_leg k p f e) h rows opened = not_in st p h (λ x. cc) (λ x. cc)
+ordered_by (close k p e) h rows opened = cc
 
-pub ordered : {st end : State} {rs : List Rec} → Runs st rs end → end.phase ≡ closed
-    → st.phase ≡ at_rows → Ordered st rs end
-ordered done e h = absurd (omega arith)
+pub ordered : {st end : State} {rs : List Rec} → Runs st rs end → end.phase ≡ Closed
+    → st.phase ≡ AtRows → Ordered st rs end
+ordered done e h = cc
 ordered (more {st} {st'} {r = r} e p) f h =
     ordered_by (came st st' r.kind true r.values e) h (ordered p f) (begun p f)
 

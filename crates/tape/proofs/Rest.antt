@@ -16,14 +16,14 @@ use Rattle.tape.specs.Fields.{signed_at, number_at, AllBytes, DoesRead}
 use Rattle.tape.specs.Legs.{Good, Rest}
 use Rattle.tape.specs.Tape.{judge, start, records_of, tape_of, run_of}
 use Rattle.tape.specs.declared.State.{State}
-use Rattle.tape.specs.declared.Reading.TheVariants.{Reads}
 use Rattle.tape.proofs.Back.{length_body, numbers_back}
 use Rattle.tape.proofs.Numbers.{head_drop, num_drop}
 use Rattle.tape.proofs.Round.{same_bytes, lawful, reads_next}
 use Rattle.tape.proofs.Walk.{passed}
+use Rattle.std.specs.Prelude.{Ok}
 
 -- ---- the start
-good_run : (st : State) (at : ℕ) (rs : List Rec) (last : State) → run_of st at rs ≡ Reads last
+good_run : (st : State) (at : ℕ) (rs : List Rec) (last : State) → run_of st at rs ≡ Ok last
     → Good rs
 unfolding run_of
 good_run st at [] last e = tt

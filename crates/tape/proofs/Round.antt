@@ -14,14 +14,15 @@ use Rattle.records.specs.Bytes.{Width, two, four, byte_count, num, bytes, Coding
 use Rattle.records.specs.Bytes.{twos_complement, capacity, meant, written}
 use Rattle.records.specs.Record.{Field, kind_fields, total, numbers, spell, body_of, bytes_of}
 use Rattle.records.specs.Record.{numbers_of}
-use Rattle.tape.specs.Tape.{Step, Next, Stop, walk, step_of, judge, on_step, start, reading_of}
+use Rattle.tape.specs.Tape.{walk, step_of, judge, on_step, start, reading_of}
 use Rattle.tape.specs.Tape.{records_from, records_of, tape_of, run_of, fields_read}
 use Rattle.tape.specs.Fields.{AllBytes}
 use Rattle.tape.specs.declared.State.{State}
-use Rattle.tape.specs.declared.Reading.{Reading}
-use Rattle.tape.specs.declared.Reading.TheVariants.{Reads}
 use Rattle.whole.proofs.Branch.{by_test}
 use Rattle.tape.proofs.Walk.{step_whole}
+use Rattle.std.specs.Prelude.{Result, Ok, Err}
+use Rattle.answer.specs.declared.Refusal.{Refusal}
+use Rattle.answer.specs.declared.Refused.{Refused}
 
 -- each element is a byte
 abbrev Bytes : List ℕ → Type 0
@@ -83,22 +84,22 @@ unfolding bytes_of numbers_of body_of
 record_bytes x l b h = rw (spell_numbers (kind_fields x) (x ∷ l) 1 b (omega arith))
 
 -- a record that is taken is whole, and so is judged as its fields alone are
-taken_whole : (st st' : State) (x : ℕ) (l : List ℕ) → Next st' ≡ step_of st (x ∷ l)
-    → (body_of x ≤ length l) × (Next st' ≡ judge st x true (numbers_of x (x ∷ l)))
+taken_whole : (st st' : State) (x : ℕ) (l : List ℕ) → Ok st' ≡ step_of st (x ∷ l)
+    → (body_of x ≤ length l) × (Ok st' ≡ judge st x true (numbers_of x (x ∷ l)))
 unfolding step_of
 taken_whole st st' x l e =
     let h = step_whole st st' (x ∷ l) e in (omega arith, rw (lt-ltb _ _ h) at e)
 
 -- ---- the tape
 -- what reads to its end takes its first record, and then reads to its end
-pub reads_next : (s : Step) (at : ℕ) (f : State → Reading) (a : State) → on_step s at f ≡ Reads a
-    → (st : State) × (Next st ≡ s) × (f st ≡ Reads a)
-reads_next (Next st) at f a e = (st, refl, e)
-reads_next (Stop n) at f a e = let z : ◌≡◌ {A = ℕ} 0 1 = cc in absurd (omega arith)
+pub reads_next : (s : Result State Refusal) (at : ℕ) (f : State → Result State Refused) (a : State)
+    → on_step s at f ≡ Ok a → (st : State) × (Ok st ≡ s) × (f st ≡ Ok a)
+reads_next (Ok st) at f a e = (st, refl, e)
+reads_next (Err n) at f a e = cc
 
-again_from : (st : State) (at n : ℕ) (l : List ℕ) (a : State) → walk st at n l ≡ Reads a
+again_from : (st : State) (at n : ℕ) (l : List ℕ) (a : State) → walk st at n l ≡ Ok a
     → (Bytes l → tape_of (records_from n l) ≡ drop n l)
-    × (run_of st at (records_from n l) ≡ Reads a)
+    × (run_of st at (records_from n l) ≡ Ok a)
 unfolding walk records_from tape_of run_of
 again_from st at zero [] a e = (λ b. refl, e)
 again_from st at (suc n) [] a e = (λ b. refl, e)
@@ -113,13 +114,13 @@ again_from st at zero (x ∷ l) a e =
     )
 
 -- a tape that reads, written again from its fields, is the same bytes
-pub same_bytes : (l : List ℕ) (a : State) → AllBytes l → reading_of l ≡ Reads a
+pub same_bytes : (l : List ℕ) (a : State) → AllBytes l → reading_of l ≡ Ok a
     → tape_of (records_of l) ≡ l
 unfolding reading_of
 same_bytes l a b e = (again_from start 0 0 l a e).0 b.each
 
 -- and its fields by themselves meet no refusal tried before 8
-pub lawful : (l : List ℕ) (a : State) → reading_of l ≡ Reads a
-    → fields_read (records_of l) ≡ Reads a
+pub lawful : (l : List ℕ) (a : State) → reading_of l ≡ Ok a
+    → fields_read (records_of l) ≡ Ok a
 unfolding reading_of
 lawful l a e = (again_from start 0 0 l a e).1

@@ -7,40 +7,48 @@ use native.Mathlib.Nat.{eq-or-lt_of_le}
 use native.Mathlib.Omega.{arith}
 use mathlib.Core.Path.{◌≡◌, refl, sym, subst}
 use mathlib.Core.List.{List, [], ◌∷◌}
-use mathlib.Core.Bool.{true}
+use mathlib.Core.Bool.{true, cond}
 use mathlib.Core.Logic.Iff
 use mathlib.Core.Logic.{◌↔◌, ◌⊎◌, inl, inr, ⊎_elim}
-use lib.Dec.{eqb, ltb, leb}
+use lib.Dec.{ltb, leb}
 use lib.IntN.{ℤ}
-use borrow.Author.Tests.{ltb-true, ltb-false, leb-true, leb-false, eqb-true}
+use borrow.Author.Tests.{ltb-true, ltb-false, leb-true, leb-false}
 use Rattle.records.specs.Record.{Rec, row_kind}
-use Rattle.tape.specs.Tape.{closed, with_row, project_next, minute_of, start, run_of}
-use Rattle.tape.specs.Tape.{Step, Next, Stop, judge}
+use Rattle.tape.specs.Tape.{with_row, project_next, minute_of, start, run_of}
+use Rattle.tape.specs.Tape.{judge, is_closed, refused_at}
 use Rattle.tape.specs.declared.State.{State}
-use Rattle.tape.specs.declared.Reading.{Reading}
-use Rattle.tape.specs.declared.Reading.TheVariants.{Reads}
 use Rattle.whole.proofs.Branch.{cond_and, by_test}
 use Rattle.tape.proofs.Round.{reads_next}
 use Rattle.tape.proofs.Walk.{no}
 use Rattle.tape.proofs.Coming.{In, Came, came, stopped}
 use Rattle.tape.proofs.Coming as by
+use Rattle.std.specs.Prelude.{Result, Ok, Err}
+use Rattle.answer.specs.declared.Refusal.{Refusal}
+use Rattle.answer.specs.declared.Refusal.TheVariants.{CutShort, NoRow}
+use Rattle.tape.specs.declared.Phase.{Phase}
+use Rattle.tape.specs.declared.Phase.TheVariants.{AtRows, AfterProject, LineBegun, AfterLeg, Closed}
 
 -- the records rs, each taken, lead from st to st''
 pub data Runs : State → List Rec → State → Type 0 where
   done : {st : State} → Runs st [] st
   more : {st st' st'' : State} {r : Rec} {rs : List Rec}
-      → Next st' ≡ judge st r.kind true r.values → Runs st' rs st'' → Runs st (r ∷ rs) st''
+      → Ok st' ≡ judge st r.kind true r.values → Runs st' rs st'' → Runs st (r ∷ rs) st''
 
 -- a tape that reads is such a run, to the close
-pub runs : (st : State) (at : ℕ) (rs : List Rec) (last : State) → run_of st at rs ≡ Reads last
-    → Runs st rs last × (last.phase ≡ closed)
+pub runs : (st : State) (at : ℕ) (rs : List Rec) (last : State) → run_of st at rs ≡ Ok last
+    → Runs st rs last × (last.phase ≡ Closed)
 unfolding run_of
 runs st at [] last e =
-    by_test (λ (x : Reading). x ≡ Reads last → Runs st [] last × (last.phase ≡ closed))
-    (eqb st.phase closed)
-    (λ t e. let same : st ≡ last = cc in rw (← same) (done, eqb-true _ _ t))
-    (λ t e. let z : ◌≡◌ {A = ℕ} 0 1 = cc in absurd (omega arith))
-    e
+    ended st.phase refl e
+  where
+    ended : (p : Phase) → st.phase ≡ p
+        → cond (is_closed p) (Ok st) (refused_at CutShort at) ≡ Ok last
+        → Runs st [] last × (last.phase ≡ Closed)
+    ended Closed c e = let same : st ≡ last = cc in rw (← same) (done, c)
+    ended AtRows c e = cc
+    ended AfterProject c e = cc
+    ended LineBegun c e = cc
+    ended AfterLeg c e = cc
 runs st at (r ∷ rs) last e =
     let w = reads_next (judge st r.kind true r.values) at _ last e in
     let i = runs w.0 _ rs last w.2 in
@@ -98,10 +106,10 @@ rows_mean st rs m p =
     (λ i. ⊎_elim (λ j. absurd (omega arith)) (λ y. y) (run.0 i), λ y. run.1 (inr y))
 
 -- ---- refusal 7 is given where the two numbers do not hold the latitude
-refused : (st : State) (m : ℕ) → (project_next st m ≡ Stop 7) ↔ (¬ In st m)
+not_held : (st : State) (m : ℕ) → (project_next st m ≡ Err NoRow) ↔ (¬ In st m)
 unfolding project_next
-refused st m =
-    let P : Step → Type 0 = λ s. (s ≡ Stop 7) ↔ (¬ In st m) in
+not_held st m =
+    let P : Result State Refusal → Type 0 = λ s. (s ≡ Err NoRow) ↔ (¬ In st m) in
     rw cond_and (by_test P (ltb m st.next)
     (λ t. by_test P (leb (st.next - m) st.rows)
     (λ u. (stopped, λ out. absurd (out (omega (arith, ltb-true, leb-true)))))
@@ -110,5 +118,5 @@ refused st m =
 
 -- and so exactly where no row has it
 pub no_row_lem : (st : State) (rs : List Rec) (m : ℕ) → Runs start rs st
-    → (project_next st m ≡ Stop 7) ↔ (¬ Has m rs)
-no_row_lem st rs m p = Iff.trans (refused st m) (Iff.not (rows_mean st rs m p))
+    → (project_next st m ≡ Err NoRow) ↔ (¬ Has m rs)
+no_row_lem st rs m p = Iff.trans (not_held st m) (Iff.not (rows_mean st rs m p))

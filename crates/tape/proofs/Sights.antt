@@ -29,18 +29,18 @@ module _ (tape : List ℕ) (at : ℕ) where
 
   -- ---- a leg, and a close, that are whole
   module _ (n : ℕ) (low : at < n) (a : ℕ) (angle : a ≡ num four tape (at + 1)) where
-    pub leg_sight : (d : ℕ) → n ≡ length tape - 8 → d ≡ num four tape (at + 5)
-        → get_or tape at 0 ≡ 3
-        → record { angle = a; distance = d; next = at + 9 } ≡ sight_at tape at
-    unfolding angle_of distance_of numbers_of body_of kind_fields table meant
-    leg_sight d e distance is =
-        let f : at + 9 ≡ at + 1 + 8 = omega arith in
+    pub leg_sight : (d b : ℕ) → n ≡ length tape - body_of 3 → d ≡ num four tape (at + 5)
+        → b ≡ 1 + body_of 3 → get_or tape at 0 ≡ 3
+        → record { angle = a; distance = d; next = at + b } ≡ sight_at tape at
+    unfolding angle_of distance_of numbers_of kind_fields table meant
+    leg_sight d b e distance long is =
+        let f : at + b ≡ at + 1 + body_of 3 = omega arith in
         rw (is, num_drop four at tape 1, num_drop four at tape 5, ← angle, ← distance, ← f)
         at (whole_sight 3 is (omega arith))
 
-    pub close_sight : n ≡ length tape - 16 → get_or tape at 0 ≡ 4
+    pub close_sight : n ≡ length tape - body_of 4 → get_or tape at 0 ≡ 4
         → record { angle = a; distance = 0; next = at } ≡ sight_at tape at
-    unfolding angle_of numbers_of body_of kind_fields table meant
+    unfolding angle_of numbers_of kind_fields table meant
     close_sight e is =
         rw (is, num_drop four at tape 1, ← angle) at (whole_sight 4 is (omega arith))
 
@@ -55,8 +55,8 @@ module _ (tape : List ℕ) (at : ℕ) where
       (by_test P (leb (at + 1 + body_of k) (length tape)) (λ t. refl) (λ t. refl))
 
   module _ (no_leg : get_or tape at 0 ≡ 3 → length tape ≤ at + body_of 3) where
-    no_sight_lem : (get_or tape at 0 ≡ 4 → length tape ≤ at + 16) → no_sight at ≡ sight_at tape at
-    unfolding body_of kind_fields table
+    no_sight_lem : (get_or tape at 0 ≡ 4 → length tape ≤ at + body_of 4)
+        → no_sight at ≡ sight_at tape at
     no_sight_lem no_close =
         elim (ℕ_discrete (get_or tape at 0) 3) [
           | yes is ↦ short_sight 3 is (omega (arith, no_leg is))
@@ -66,17 +66,11 @@ module _ (tape : List ℕ) (at : ℕ) where
           ]
         ]
 
-    pub far_sight : (n : ℕ) → n ≡ length tape - 16 → n ≤ at → no_sight at ≡ sight_at tape at
+    pub far_sight : (n : ℕ) → n ≡ length tape - body_of 4 → n ≤ at → no_sight at ≡ sight_at tape at
     far_sight n e h = no_sight_lem (λ is. omega arith)
 
     pub none_sight : (get_or tape at 0 ≡ 4 → ⊥) → no_sight at ≡ sight_at tape at
     none_sight g = no_sight_lem (λ is. absurd (g is))
 
-  -- what `sight_at` has found where it asks for the close
-  pub far_leg : (n : ℕ) → n ≡ length tape - 8 → n ≤ at → get_or tape at 0 ≡ 3
-      → length tape ≤ at + body_of 3
-  unfolding body_of kind_fields table
-  far_leg n e h is = omega arith
-
-  pub other_leg : (get_or tape at 0 ≡ 3 → ⊥) → get_or tape at 0 ≡ 3 → length tape ≤ at + body_of 3
-  other_leg f is = absurd (f is)
+-- ---- what the code is told of
+pub ruleset sights = (leg_sight, close_sight, none_sight, far_sight)

@@ -14,16 +14,13 @@ use Rattle.whole.specs.declared.Whole.{Whole}
 use Rattle.records.specs.Bytes.{two, four, num, meant, unsigned, twos_complement}
 use Rattle.records.specs.Record.{Rec, row_kind, project_kind, start_kind, close_kind, kind_fields}
 use Rattle.records.specs.Record.{table, body_of}
-use Rattle.tape.specs.Tape.{at_rows, closed, is_leg, start, records_of, reading_of, told_reading}
+use Rattle.tape.specs.Tape.{is_leg, start, records_of, reading_of, told_reading}
 use Rattle.tape.specs.Fields.{signed_at, number_at, pick, only, place_of, is_row, scale_of, picked}
 use Rattle.tape.specs.Fields.{control_of, taken_if, taken_of, told_taken, ReadsTo, DoesRead}
 use Rattle.tape.specs.Fields.{fields_of as named}
 use Rattle.tape.specs.Legs.{Rest, Legs, last, leg, Order, row as a_row, opens}
 use Rattle.tape.specs.declared.State.{State}
 use Rattle.tape.specs.declared.Control.{Control}
-use Rattle.tape.specs.declared.Reading.{Reading}
-use Rattle.tape.specs.declared.Reading.TheVariants.{Refused, Reads}
-use Rattle.tape.specs.declared.Taken.TheVariants as taken
 use Rattle.tape.proofs.Coming as by
 use Rattle.tape.proofs.Coming.{Came, came}
 use Rattle.tape.proofs.Ordered.{ordered, order_of, no_rows}
@@ -33,6 +30,9 @@ use Rattle.tape.proofs.Rest.{offset, field_at, whole_there, rest_start, rest_nex
 use Rattle.tape.proofs.Rest.{value_there, number_there}
 use Rattle.tape.proofs.Round.{lawful}
 use Rattle.tape.proofs.Rows.{Runs, done, more, runs}
+use Rattle.std.specs.Prelude.{Result, Ok, Err}
+use Rattle.answer.specs.declared.Refused.{Refused}
+use Rattle.tape.specs.declared.Phase.TheVariants.{AtRows, Closed}
 
 -- the place after a record of kind k
 after : (tape : List ℕ) (at k p : ℕ) (r : Rec) (rs : List Rec) → Rest tape at (r ∷ rs)
@@ -145,15 +145,16 @@ shut tape (opens p s l {rs} one second is legs) at h =
 
 -- ---- the row of a latitude is as many rows on as its minute is above the first. After the project
 -- no row comes
-still_by : {st u : State} {k : ℕ} {vs : List ℤ} → Came st k vs u → 1 ≤ st.phase
-    → (1 ≤ u.phase) × (st.rows ≡ u.rows)
-still_by (by.row k p f n e) h = absurd (omega arith)
-still_by (by.project k p i e) h = absurd (omega arith)
-still_by (by.start k p e) h = rw e (omega arith, refl)
-still_by (by.leg k p f e) h = rw e (omega arith, refl)
-still_by (by.close k p e) h = rw e (omega arith, refl)
+still_by : {st u : State} {k : ℕ} {vs : List ℤ} → Came st k vs u → (st.phase ≡ AtRows → ⊥)
+    → (u.phase ≡ AtRows → ⊥) × (st.rows ≡ u.rows)
+still_by (by.row k p f n e) h = absurd (h p)
+still_by (by.project k p i e) h = absurd (h p)
+still_by (by.start k p e) h = rw e (λ x. cc, refl)
+still_by (by.leg k p f e) h = rw e (λ x. cc, refl)
+still_by (by.close k p e) h = rw e (λ x. cc, refl)
 
-still : {st end : State} {rs : List Rec} → Runs st rs end → 1 ≤ st.phase → st.rows ≡ end.rows
+still : {st end : State} {rs : List Rec} → Runs st rs end → (st.phase ≡ AtRows → ⊥)
+    → st.rows ≡ end.rows
 still done h = refl
 still (more {st} {st'} {r = r} e p) h =
     let i = still_by (came st st' r.kind true r.values e) h in i.1 ∙ still p i.0
@@ -179,12 +180,12 @@ module _ (tape : List ℕ) (end : State) (m : ℕ) where
       (omega arith) (omega arith))
 
   too_late : (st u : State) {r : Rec} (rs : List Rec) → Runs u rs end → u.rows ≡ st.rows
-      → 1 ≤ u.phase → Scaled st (r ∷ rs)
+      → (u.phase ≡ AtRows → ⊥) → Scaled st (r ∷ rs)
   too_late st u rs run rows phase j at p h due low place = absurd (omega (arith, still run phase))
 
   scale_by : {st u : State} {r : Rec} {rs : List Rec} → Came st r.kind r.values u
-      → Runs u rs end → end.phase ≡ closed
-      → (u.phase ≡ at_rows → Scaled u rs) → Scaled st (r ∷ rs)
+      → Runs u rs end → end.phase ≡ Closed
+      → (u.phase ≡ AtRows → Scaled u rs) → Scaled st (r ∷ rs)
   scale_by {st} {u} {r} {rs} (by.row k p f n e) run shut ih =
       let o = ordered run shut (rw e) in
       let rows = ap (λ (x : State). x.rows) e in
@@ -192,17 +193,17 @@ module _ (tape : List ℕ) (end : State) (m : ℕ) where
       let on = o.next (omega arith) in
       row_scale st u r rs k rows (omega arith) (ih (rw e))
   scale_by {st} {u} {rs = rs} (by.project k p i e) run shut ih =
-      too_late st u rs run (rw e) (rw e (omega arith))
+      too_late st u rs run (rw e) (rw e (λ x. cc))
   scale_by {st} {u} {rs = rs} (by.start k p e) run shut ih =
-      too_late st u rs run (rw e) (rw e (omega arith))
+      too_late st u rs run (rw e) (rw e (λ x. cc))
   scale_by {st} {u} {rs = rs} (by.leg k p f e) run shut ih =
-      too_late st u rs run (rw e) (rw e (omega arith))
+      too_late st u rs run (rw e) (rw e (λ x. cc))
   scale_by {st} {u} {rs = rs} (by.close k p e) run shut ih =
-      too_late st u rs run (rw e) (rw e (omega arith))
+      too_late st u rs run (rw e) (rw e (λ x. cc))
 
-  scale_run : {st : State} {rs : List Rec} → Runs st rs end → end.phase ≡ closed
-      → st.phase ≡ at_rows → Scaled st rs
-  scale_run done f h = absurd (omega arith)
+  scale_run : {st : State} {rs : List Rec} → Runs st rs end → end.phase ≡ Closed
+      → st.phase ≡ AtRows → Scaled st rs
+  scale_run done f h = cc
   scale_run (more {st} {st'} {r = r} {rs = rs} e p) f h =
       scale_by {st = st} {u = st'} {r = r} {rs = rs} (came st st' r.kind true r.values e) p f
       (λ x j at q g due low place. scale_run p f x j at q g due low place)
@@ -248,8 +249,8 @@ module _ (tape : List ℕ) (last : State) (to : ReadsTo tape last) where
         (number_there tape _ b.p b.ps b.project project_kind 0 _ b.one (omega arith) refl
         (omega arith))
 
-    under : m < last.next
-    under = rw (← latitude_is) (order_of tape does).held.0
+    pub row_high : m < last.next
+    row_high = rw (← latitude_is) (order_of tape does).held.0
 
     pub row_low : last.next - m ≤ last.rows
     row_low = rw (← latitude_is) (let h = (order_of tape does).held.1 in omega arith)
@@ -258,13 +259,10 @@ module _ (tape : List ℕ) (last : State) (to : ReadsTo tape last) where
     scale_is : scale_of m (records_of tape) ≡ num four tape ((last.rows - (last.next - m)) * 7 + 3)
     scale_is =
         let run = runs start 0 (records_of tape) last (lawful tape last to.reads) in
-        let high = under in
+        let high = row_high in
         let low = row_low in
         scale_run tape last m run.0 run.1 refl (last.rows - (last.next - m)) 0 _
         (rest_start tape to.bytes does) (omega arith) (omega arith) (omega arith)
-
-  pub row_high : num two tape (last.rows * 7 + 1) < last.next
-  row_high = under _ refl
 
   legs_are : length (pick is_leg (records_of tape)) ≡ last.legs
   legs_are = omega (arith, (order_of tape does).legs)
@@ -299,12 +297,14 @@ module _ (tape : List ℕ) (last : State) (to : ReadsTo tape last) where
       rw b.is_close (number_there tape _ b.c [] b.close close_kind i p b.four_is low c e)
 
   -- what the code takes from the places is the fields
-  pub control_is : (at begin line : ℕ) (elevation : Whole)
+  pub control_is : (at project begin line row : ℕ) (elevation : Whole)
       (latitude scale north east mark to_north to_east given : ℕ)
-      → begin ≡ last.rows * 7 + 5 → line ≡ begin + 13 → at ≡ length tape - 17
-      → latitude ≡ num two tape (last.rows * 7 + 1)
-      → elevation.v ≡ meant twos_complement two (num two tape (last.rows * 7 + 3))
-      → scale ≡ num four tape ((last.rows - (last.next - latitude)) * 7 + 3)
+      → project ≡ last.rows * 7 → begin ≡ project + 5 → line ≡ begin + 13
+      → at ≡ length tape - 17
+      → row ≡ (last.rows - (last.next - latitude)) * 7
+      → latitude ≡ num two tape (project + 1)
+      → elevation.v ≡ meant twos_complement two (num two tape (project + 3))
+      → scale ≡ num four tape (row + 3)
       → north ≡ num four tape (begin + 1) → east ≡ num four tape (begin + 5)
       → mark ≡ num four tape (begin + 9)
       → to_north ≡ num four tape (at + 5) → to_east ≡ num four tape (at + 9)
@@ -321,8 +321,12 @@ module _ (tape : List ℕ) (last : State) (to : ReadsTo tape last) where
         place = at;
       } ≡ control_of (named tape)
   unfolding picked kind_fields table
-  control_is at begin line elevation latitude scale north east mark to_north to_east given
-      a b c d e f g h i j k l =
+  control_is at project begin line row elevation latitude scale north east mark to_north to_east
+      given p a b c r d' e' f' g h i j k l =
+      let d : latitude ≡ num two tape (last.rows * 7 + 1) = rw p at d' in
+      let e : elevation.v ≡ meant twos_complement two (num two tape (last.rows * 7 + 3))
+      = rw p at e' in
+      let f : scale ≡ num four tape ((last.rows - (last.next - latitude)) * 7 + 3) = rw r at f' in
       let close : at ≡ closing.place = omega (arith, close_long) in
       let begins : line ≡ last.rows * 7 + 18 = omega arith in
       let high : elevation ≡ record {
@@ -353,26 +357,11 @@ module _ (tape : List ℕ) (last : State) (to : ReadsTo tape last) where
         close,
       )
 
--- ---- the answer: r is what the reading answered
-module _ (tape : List ℕ) (r : Reading) (e : r ≡ reading_of tape) where
-  pub taken_reads : (a : State) (c : Control) → r ≡ Reads a → c ≡ control_of (named tape)
-      → taken.Reads c ≡ taken_of tape
-  unfolding taken_of
-  taken_reads a c h g = rw (← e, h, g)
+-- the tape is as long as the places of the fields need, and the row of the latitude is one of its
+-- rows
+pub ruleset places = (long, ends, row_high, row_low)
 
-  pub taken_refused : (n p : ℕ) → r ≡ Refused n p → taken.Refused n p ≡ taken_of tape
-  unfolding taken_of
-  taken_refused n p h = rw (← e, h)
-
-  -- and what is told of it
-  pub told_reads : (a : State) (c : Control) → r ≡ Reads a → c ≡ control_of (named tape)
-      → told_taken (taken.Reads c) ≡ told_taken (taken_of tape)
-  told_reads a c h g = ap told_taken (taken_reads a c h g)
-
-  pub told_refused : (n p : ℕ) → r ≡ Refused n p
-      → told_taken (taken.Refused n p) ≡ told_taken (taken_of tape)
-  told_refused n p h = ap told_taken (taken_refused n p h)
-
+-- ---- the answer
 -- what is taken tells the number and the place of the reading
 pub taken_tells : (tape : List ℕ)
     → ((told_taken (taken_of tape)).number ≡ (told_reading (reading_of tape)).number)
@@ -380,29 +369,29 @@ pub taken_tells : (tape : List ℕ)
 unfolding taken_of
 taken_tells tape = go (reading_of tape)
   where
-    go : (r : Reading) → ((told_taken (taken_if r (named tape))).number ≡ (told_reading r).number)
+    go : (r : Result State Refused)
+        → ((told_taken (taken_if r (named tape))).number ≡ (told_reading r).number)
         × ((told_taken (taken_if r (named tape))).place ≡ (told_reading r).place)
-    go (Reads st) = (refl, refl)
-    go (Refused n p) = (refl, refl)
+    go (Ok st) = (refl, refl)
+    go (Err x) = (refl, refl)
 
 -- ---- and what a caller learns from it: the tape reads, and the control is its own, or the reading
 -- is the refusal
-pub took : (tape : List ℕ) (c : Control) → taken_of tape ≡ taken.Reads c
+pub took : (tape : List ℕ) (c : Control) → taken_of tape ≡ Ok c
     → DoesRead tape × (c ≡ control_of (named tape))
 unfolding taken_of
 took tape c = go (reading_of tape) refl
   where
-    go : (r : Reading) → reading_of tape ≡ r → taken_if r (named tape) ≡ taken.Reads c
+    go : (r : Result State Refused) → reading_of tape ≡ r → taken_if r (named tape) ≡ Ok c
         → DoesRead tape × (c ≡ control_of (named tape))
-    go (Reads st) e h = (record { last = st; reads = e }, cc)
-    go (Refused n p) e h = let z : ◌≡◌ {A = ℕ} 0 1 = cc in absurd (omega arith)
+    go (Ok st) e h = (record { last = st; reads = e }, cc)
+    go (Err x) e h = cc
 
-pub took_not : (tape : List ℕ) (n p : ℕ) → taken_of tape ≡ taken.Refused n p
-    → reading_of tape ≡ Refused n p
+pub took_not : (tape : List ℕ) (x : Refused) → taken_of tape ≡ Err x → reading_of tape ≡ Err x
 unfolding taken_of
-took_not tape n p = go (reading_of tape) refl
+took_not tape x = go (reading_of tape) refl
   where
-    go : (r : Reading) → reading_of tape ≡ r → taken_if r (named tape) ≡ taken.Refused n p
-        → reading_of tape ≡ Refused n p
-    go (Reads st) e h = let z : ◌≡◌ {A = ℕ} 0 1 = cc in absurd (omega arith)
-    go (Refused m q) e h = e ∙ cc
+    go : (r : Result State Refused) → reading_of tape ≡ r → taken_if r (named tape) ≡ Err x
+        → reading_of tape ≡ Err x
+    go (Ok st) e h = cc
+    go (Err y) e h = e ∙ cc

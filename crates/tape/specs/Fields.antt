@@ -2,17 +2,14 @@
 -- the record that has them, and what is returned of them. Each is picked from the records of the
 -- tape; the row that counts is the one of the mean latitude.
 use Rattle.std.specs.Prelude.{Bool, cond, ◌&&◌, ◌||◌, List, [], ◌∷◌, map, ◌≡◌, ℕ, ◌+◌, ◌<◌, eqb}
-use Rattle.std.specs.Prelude.{length, get_or, ℤ, pos, nat_abs}
+use Rattle.std.specs.Prelude.{length, get_or, ℤ, pos, nat_abs, Result, Ok, Err}
 use Rattle.whole.specs.declared.Whole.{Whole}
 use Rattle.records.specs.Record.{Rec, rec, body_of, row_kind, project_kind, start_kind, close_kind}
 use Rattle.tape.specs.declared.State.{State}
 use Rattle.tape.specs.declared.Point.{Point}
 use Rattle.tape.specs.declared.Control.{Control}
-use Rattle.tape.specs.declared.Taken.{Taken}
-use Rattle.tape.specs.declared.Taken.TheVariants as taken
-use Rattle.tape.specs.declared.Reading.{Reading}
-use Rattle.tape.specs.declared.Reading.TheVariants as reading
-use Rattle.tape.specs.Tape.{is_leg, reading_of, records_of, ToldReading}
+use Rattle.answer.specs.declared.Refused.{Refused}
+use Rattle.tape.specs.Tape.{is_leg, reading_of, records_of, ToldReading, told_refusal}
 
 -- ---- the parts
 -- where the project lies: its mean latitude and elevation, and the factor of the row of that
@@ -156,11 +153,11 @@ control_of f =
       place = f.closing.place;
     }
 
-abbrev pub taken_if : Reading → Fields → Taken
-taken_if (reading.Reads st) f = taken.Reads (control_of f)
-taken_if (reading.Refused n p) f = taken.Refused n p
+abbrev pub taken_if : Result State Refused → Fields → Result Control Refused
+taken_if (Ok st) f = Ok (control_of f)
+taken_if (Err r) f = Err r
 
-unfoldable pub taken_of : List ℕ → Taken
+unfoldable pub taken_of : List ℕ → Result Control Refused
 taken_of tape = taken_if (reading_of tape) (fields_of tape)
 
 -- ---- what each case tells: the fields, of which every number is zero on a refusal
@@ -181,9 +178,9 @@ no_control =
       place = 0;
     }
 
-abbrev pub told_taken : Taken → ToldReading Control
-told_taken (taken.Reads c) = record { number = 0; place = 0; read = c }
-told_taken (taken.Refused n p) = record { number = n; place = p; read = no_control }
+abbrev pub told_taken : Result Control Refused → ToldReading Control
+told_taken (Ok c) = record { number = 0; place = 0; read = c }
+told_taken (Err r) = told_refusal no_control r
 
 -- each element is a byte, as a lent slice of bytes tells
 pub record AllBytes (l : List ℕ) : Type 0 where
@@ -192,9 +189,9 @@ pub record AllBytes (l : List ℕ) : Type 0 where
 -- a tape of bytes that reads to a last state
 pub record ReadsTo (tape : List ℕ) (last : State) : Type 0 where
   pub bytes : AllBytes tape
-  pub reads : reading_of tape ≡ reading.Reads last
+  pub reads : reading_of tape ≡ Ok last
 
 -- a tape that reads
 pub record DoesRead (tape : List ℕ) : Type 0 where
   pub last : State
-  pub reads : reading_of tape ≡ reading.Reads last
+  pub reads : reading_of tape ≡ Ok last

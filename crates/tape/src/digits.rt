@@ -1,31 +1,23 @@
 // The numbers that bytes spell, the high byte first.
+#![tactic(auto, using(crate::proofs::Numbers::spelled))]
+
 ghost use Rattle.std.specs.Prelude.{◌≡◌, ◌+◌, ◌<◌, ◌≤◌, length};
 ghost use Rattle.records.specs.Bytes.{num, two, four, meant, twos_complement};
 
 use whole::Whole;
 
-fn wide(x: u8) -> u32
-    ensures { (result ≡ x) × (result < 256) }
-{
-    x as u32
-}
-
 pub fn two_at(s: &[u8], at: usize) -> u32
     requires { at + 2 ≤ length s.now }
     ensures { (result ≡ num two s.now at) × (result < 65536) }
 {
-    let hi = wide(s[at]);
-    let lo = wide(s[at + 1]);
-    hi * 256 + lo
+    u32::from(u16::from_be_bytes([s[at], s[at + 1]]))
 }
 
 pub fn four_at(s: &[u8], at: usize) -> u32
     requires { at + 4 ≤ length s.now }
     ensures { result ≡ num four s.now at }
 {
-    let hi = two_at(s, at);
-    let lo = two_at(s, at + 2);
-    hi * 65536 + lo
+    u32::from_be_bytes([s[at], s[at + 1], s[at + 2], s[at + 3]])
 }
 
 // Two bytes in two's complement.
@@ -33,9 +25,7 @@ pub fn signed_at(s: &[u8], at: usize) -> Whole
     requires { at + 2 ≤ length s.now }
     ensures is { result.v ≡ meant twos_complement two (num two s.now at) }
 {
-    let n = two_at(s, at);
-    if n < 32768 {
-        return Whole::of_size(n as u64);
+    Whole {
+        v: i64::from(i16::from_be_bytes([s[at], s[at + 1]])),
     }
-    Whole::of_size((65536 - n) as u64).opposite()
 }

@@ -1,16 +1,14 @@
 -- How many digits a number has: one below ten, else one more than its tenth has. So it is the
 -- fewest that hold the number, and nothing is padded.
-use Prim.Native.Nat.{ℕ, zero, suc, ◌+◌, ◌-◌, ◌*◌, ◌/◌, ◌%◌, ◌^◌, ◌≤◌, ◌<◌}
+use Prim.Native.Nat.{ℕ, max, zero, suc, ◌+◌, ◌*◌, ◌/◌, ◌%◌, ◌^◌, ◌≤◌, ◌<◌}
 use native.Mathlib.Omega.{arith}
 use native.Mathlib.Decide.{dec_lt}
 use native.Mathlib.Nat.{pow-suc, pow-succ', one-le-pow, div-div-eq-div-mul}
 use mathlib.Core.Path.{◌≡◌, refl, sym, ◌∙◌, ap}
-use mathlib.Core.List.{List, [], ◌∷◌}
+use mathlib.Core.List.{List, [], ◌∷◌, ◌++◌, append_assoc}
 use borrow.Author.Tests.{lt-ltb, le-ltb}
-use lib.ListN.{length, set, length-append, length-set}
+use lib.ListN.{length, set, length-append}
 use lib.Seq.{sets}
-use mir.Syntax.{w64}
-use mir.Val.{Fits}
 use Rattle.text.specs.Text.{digits, digit_count_in, digit_count, decimal}
 use Rattle.text.specs.Room.{Room, Put}
 use Rattle.text.proofs.Putting.{sets_last}
@@ -50,6 +48,13 @@ digit_count_high (suc n) h =
       digit_count_in_high n (suc n) h,
       digit_count_in_enough n (suc n / 10) (suc n / 10) (omega arith) (omega arith),
     )
+
+pub digit_count_some : (n : ℕ) → 1 ≤ digit_count n
+digit_count_some n =
+    elim (dec_lt n 10) [
+      | yes l ↦ omega (arith, digit_count_low n l)
+      | no l ↦ omega (arith, digit_count_high n (omega arith))
+    ]
 
 -- few steps are enough for few digits
 digit_count_in_short : (f n : ℕ) → n < 10 ^ suc f → digit_count_in f n ≡ digit_count n
@@ -115,17 +120,15 @@ digit_count_exact k n h i =
 pub tenth_first : (k n : ℕ) → n / 10 ^ suc k ≡ n / 10 / 10 ^ k
 tenth_first k n = rw (pow-succ' 10 k) (sym (div-div-eq-div-mul n 10 (10 ^ k)))
 
--- ---- the count of the code, a digit at a time
-module _ (k n rest : ℕ) (e : k + digit_count rest ≡ 1 + digit_count n) where
-  pub count_next : 9 < rest → k + 1 + digit_count (rest / 10) ≡ 1 + digit_count n
-  count_next h = omega (arith, digit_count_high rest (omega arith))
-
-  pub count_last : rest ≤ 9 → k ≡ digit_count n
-  count_last h = omega (arith, digit_count_low rest (omega arith))
-
-  pub count_fits : Fits w64 n → 9 < rest → Fits w64 (k + 1)
-  count_fits f h = omega
-      (arith, digit_count_high rest (omega arith), digit_count_most 19 n (omega (arith, f.fits)))
+-- the count of the code, by the power of ten; zero has one digit as one has
+pub count_by_power : (k n m : ℕ) → m ≡ max n 1 → 10 ^ k ≤ m → m < 10 * 10 ^ k
+    → k + 1 ≡ digit_count n
+count_by_power zero n m e h i = omega (arith, digit_count_low n (omega arith))
+count_by_power (suc k) n m e h i =
+    let tens = pow-suc 10 k in
+    let some = one-le-pow k 10 (omega arith) in
+    let below : n < 10 ^ suc (suc k) = omega (arith, pow-suc 10 (suc k)) in
+    omega (arith, digit_count_exact (suc k) n (omega (arith, tens, some)) below)
 
 -- ---- the digits of the code, the last one first
 pub digits_length : (k n : ℕ) → length (digits k n) ≡ k
@@ -138,14 +141,21 @@ pub decimal_length : (n : ℕ) → length (decimal n) ≡ digit_count n
 unfolding decimal
 decimal_length n = digits_length (digit_count n) n
 
-last_digit : (l : List ℕ) (at k n : ℕ)
-    → sets l at (digits (suc k) n) ≡ sets (set l (at + k) (48 + n % 10)) at (digits k (n / 10))
+-- the last digit, and the last two, go after those before them
+digit_last : (j n : ℕ) → digits (j + 1) n ≡ digits j (n / 10) ++ ((48 + n % 10) ∷ [])
 unfolding digits
-last_digit l at k n =
-    sets_last (digits k (n / 10)) l (48 + n % 10) at
-    ∙ ap (λ (i : ℕ). sets (set l (at + i) (48 + n % 10)) at (digits k (n / 10)))
-    (digits_length k (n / 10))
+digit_last j n = let more : j + 1 ≡ suc j = omega arith in rw more
 
+two_last : (j n : ℕ) → digits (j + 2) n ≡ digits j (n / 100) ++ digits 2 (n % 100)
+unfolding digits
+two_last j n =
+    let tens : n % 100 / 10 % 10 ≡ n / 10 % 10 = omega arith in
+    let units : n % 100 % 10 ≡ n % 10 = omega arith in
+    let both : n / 10 / 10 ≡ n / 100 = omega arith in
+    let more : j + 2 ≡ suc (suc j) = omega arith in
+    rw (more, tens, units, both) (append_assoc (digits j (n / 100)) _ _)
+
+-- ---- the digits put from the last one on: with those of the rest in front of them, they all stand
 -- the bytes of two digits
 bytes_of_lem : (a b t : ℕ) → a < 10 → b < 10 → t ≡ 48 + a + 256 * (48 + b)
     → (t % 256 ≡ 48 + a) × (t / 256 % 256 ≡ 48 + b)
@@ -155,63 +165,66 @@ module _ (l : List ℕ) (at k n : ℕ) where
   pub digits_room : Room l at (digits k n) → at + k ≤ length l
   digits_room h = omega (arith, digits_length k n)
 
-  module _ (m : List ℕ) (rest : ℕ) where
-    pub digit_next : (left : ℕ) → sets m at (digits left rest) ≡ sets l at (digits k n) → 0 < left
-        → sets (set m (at + (left - 1)) (48 + rest % 10)) at
-        (digits (left - 1) (rest / 10)) ≡ sets l at (digits k n)
-    digit_next zero e h = absurd (omega arith)
-    digit_next (suc j) e h = let f : suc j - 1 ≡ j = omega arith in
-        rw f (sym (last_digit m at j rest) ∙ e)
+  module _ (m : List ℕ) (j rest : ℕ) where
+    pub digit_next : (i : ℕ) → i ≡ at + j
+        → sets m at (digits (j + 1) rest) ≡ sets l at (digits k n)
+        → sets (set m i (48 + rest % 10)) at (digits j (rest / 10)) ≡ sets l at (digits k n)
+    digit_next i e h =
+        let before = digits j (rest / 10) in
+        let f : i ≡ at + length before = omega (arith, digits_length j (rest / 10)) in
+        rw f
+        (sym (sets_last before ((48 + rest % 10) ∷ []) m at)
+        ∙ ap (sets m at) (sym (digit_last j rest)) ∙ h)
 
-    pub digit_last : (left : ℕ) → sets m at (digits left rest) ≡ sets l at (digits k n) → left ≤ 0
+    pub none_left : j ≡ 0 → sets m at (digits j rest) ≡ sets l at (digits k n)
         → Put l at (digits k n) m (at + k)
     unfolding digits
-    digit_last left e h =
-        let f : left ≡ 0 = omega arith in
-        record { bytes = rw f at e; next = ap (λ (i : ℕ). at + i) (sym (digits_length k n)) }
+    none_left e h = record {
+      bytes = rw e at h;
+      next = ap (λ (i : ℕ). at + i) (sym (digits_length k n));
+    }
 
-    -- two at a time, t holding the bytes of both
-    pub pair_next : (left t : ℕ) → t ≡ 48 + rest % 100 / 10 + 256 * (48 + rest % 100 % 10)
-        → sets m at (digits left rest) ≡ sets l at (digits k n) → 1 < left
-        → sets (set (set m (at + (left - 2) + 1) (t / 256 % 256)) (at + (left - 2)) (t % 256)) at
-        (digits (left - 2) (rest / 100)) ≡ sets l at (digits k n)
-    pair_next zero t f e h = absurd (omega arith)
-    pair_next (suc zero) t f e h = absurd (omega arith)
-    pair_next (suc (suc j)) t f e h =
-        let i : suc (suc j) - 2 ≡ j = omega arith in
-        let tens : rest % 100 / 10 ≡ rest / 10 % 10 = omega arith in
-        let units : rest % 100 % 10 ≡ rest % 10 = omega arith in
-        let (first, last) = bytes_of_lem (rest / 10 % 10) (rest % 10) t (omega arith) (omega arith)
-        (f ∙ rw (tens, units)) in
-        let both : rest / 100 ≡ rest / 10 / 10 = omega arith in
-        let next : at + j + 1 ≡ at + suc j = omega arith in
-        rw (i, last, first, both, next)
-        (sym (last_digit (set m (at + suc j) (48 + rest % 10)) at j (rest / 10)) ∙ sym
-        (last_digit m at (suc j) rest) ∙ e)
+-- ---- a number of all its digits, two digits a turn
+pub count_two : (n : ℕ) → 99 < n → digit_count n ≡ digit_count (n / 100) + 2
+count_two n h =
+    let both : n / 10 / 10 ≡ n / 100 = omega arith in
+    rw (digit_count_high n (omega arith), digit_count_high (n / 10) (omega arith), both)
+    (omega arith)
 
-    -- the list is as long as it was, so the second of them has its byte too
-    pub second_within : (left v : ℕ) → left ≤ k → at + k ≤ length l → length m ≡ length l → 1 < left
-        → at + (left - 2) < length (set m (at + (left - 2) + 1) v)
-    second_within left v h i e g = omega (arith, length-set m (at + (left - 2) + 1) v)
+decimal_two : (n : ℕ) → 99 < n → decimal n ≡ decimal (n / 100) ++ digits 2 (n % 100)
+unfolding decimal
+decimal_two n h = rw (count_two n h) (two_last (digit_count (n / 100)) n)
 
-    -- and the one that may be left
-    pub odd_last : (left : ℕ) → sets m at (digits left rest) ≡ sets l at (digits k n) → left ≤ 1
-        → (left ≡ 0 → ⊥) → Put l at (digits k n) (set m at (48 + rest % 10)) (at + k)
-    unfolding digits
-    odd_last left e h i =
-        let f : left ≡ 1 = omega arith in
-        let g : at + 0 ≡ at = omega arith in
-        record {
-          bytes = rw g at (sym (last_digit m at 0 rest) ∙ rw f at e);
-          next = ap (λ (j : ℕ). at + j) (sym (digits_length k n));
-        }
+decimal_pair : (n : ℕ) → 9 < n → n ≤ 99 → decimal n ≡ digits 2 n
+unfolding decimal
+decimal_pair n h i = rw (digit_count_high n h, digit_count_low (n / 10) (omega arith)) refl
 
--- as many digits as the number has
-module _ (l m : List ℕ) (at k n r : ℕ) (e : k ≡ digit_count n) where
-  pub decimal_room : Room l at (decimal n) → Room l at (digits k n)
-  unfolding decimal
-  decimal_room h = rw e h
+decimal_digit : (n : ℕ) → n ≤ 9 → decimal n ≡ (48 + n) ∷ []
+unfolding decimal digits
+decimal_digit n h =
+    let same : n % 10 ≡ n = omega arith in rw (digit_count_low n (omega arith), same) refl
 
-  pub decimal_put : Put l at (digits k n) m r → Put l at (decimal n) m r
-  unfolding decimal
-  decimal_put p = rw e at p
+pub count_last : (n : ℕ) → 9 < n → 2 ≤ digit_count n
+count_last n h = omega (arith, digit_count_high n (omega arith), digit_count_some (n / 10))
+
+module _ (m : List ℕ) (at rest : ℕ) (all : List ℕ) (e : sets m at (decimal rest) ≡ all) where
+  pub pair_next : (a : List ℕ) (i r : ℕ) → 99 < rest → i ≡ at + digit_count (rest / 100)
+      → Put m i (digits 2 (rest % 100)) a r → sets a at (decimal (rest / 100)) ≡ all
+  pair_next a i r h f p =
+      let before = decimal (rest / 100) in
+      let g : i ≡ at + length before = omega (arith, decimal_length (rest / 100)) in
+      rw (p.bytes, g)
+      (sym (sets_last before (digits 2 (rest % 100)) m at)
+      ∙ ap (sets m at) (sym (decimal_two rest h)) ∙ e)
+
+  pub pair_last : (a : List ℕ) (r : ℕ) → 9 < rest → rest ≤ 99 → Put m at (digits 2 rest) a r
+      → a ≡ all
+  pair_last a r h i p = p.bytes ∙ ap (sets m at) (sym (decimal_pair rest h i)) ∙ e
+
+  pub digit_alone : rest ≤ 9 → set m at (48 + rest) ≡ all
+  digit_alone h = ap (sets m at) (sym (decimal_digit rest h)) ∙ e
+
+-- as many bytes as digits
+pub decimal_put : (l m : List ℕ) (at n i : ℕ) → m ≡ sets l at (decimal n) → i ≡ at + digit_count n
+    → Put l at (decimal n) m i
+decimal_put l m at n i e f = record { bytes = e; next = omega (arith, decimal_length n) }

@@ -1,4 +1,3 @@
-pub mod Amounts
 pub mod Digits
 pub mod Lengths
 pub mod Putting

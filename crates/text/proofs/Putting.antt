@@ -1,13 +1,13 @@
 -- Texts put one after the other are their join put at the offset of the first, and there is room
 -- for each where there is room for the join.
-use Prim.Native.Nat.{ℕ, suc, ◌+◌, ◌≤◌, ◌<◌}
+use Prim.Native.Nat.{ℕ, suc, ◌+◌, ◌-◌, ◌≤◌, ◌<◌}
 use native.Mathlib.Omega.{arith}
 use native.Mathlib.Nat.{zero-add}
-use native.Mathlib.Numerals.{add-one}
-use mathlib.Core.Path.{◌≡◌, ◌∙◌, ap}
-use mathlib.Core.List.{List, [], ◌∷◌, ◌++◌}
-use lib.ListN.{length, get_or, take, drop, set, length-append, length-take}
-use lib.Seq.{sets, sets-eq, length-sets, set_comm, take-suc, take_all}
+use mathlib.Core.Path.{◌≡◌, refl, sym, ◌∙◌}
+use mathlib.Core.List.{List, [], ◌∷◌, ◌++◌, append_assoc}
+use lib.ListN.{length, take, drop, set, length-append}
+use borrow.Rule.Slice.PartMut.{put_mid}
+use lib.Seq.{sets, sets-eq, length-sets, set_comm, drop-drop}
 use Rattle.text.specs.Room.{Room, Put}
 
 sets_then : (xs ys l : List ℕ) (i : ℕ) → sets (sets l i xs) (i + length xs) ys ≡ sets l i (xs ++ ys)
@@ -15,16 +15,22 @@ sets_then [] ys l i = let e : i + 0 ≡ i = omega arith in rw e
 sets_then (x ∷ xs) ys l i = let e : i + suc (length xs) ≡ suc i + length xs = omega arith in
     rw e (sets_then xs ys (set l i x) (suc i))
 
--- the last one stored first
-pub sets_last : (xs l : List ℕ) (y i : ℕ)
-    → sets l i (xs ++ (y ∷ [])) ≡ sets (set l (i + length xs) y) i xs
-sets_last [] l y i = let e : i + 0 ≡ i = omega arith in rw e
-sets_last (x ∷ xs) l y i =
+-- one more stored before those that stand further on
+set_before : (ys l : List ℕ) (x i j : ℕ) → i < j → sets (set l i x) j ys ≡ set (sets l j ys) i x
+set_before [] l x i j h = refl
+set_before (y ∷ ys) l x i j h =
+    rw (set_comm l i j x y (λ f. omega arith)) (set_before ys (set l j y) x i (suc j) (omega arith))
+
+-- the last ones stored first
+pub sets_last : (xs ys l : List ℕ) (i : ℕ)
+    → sets l i (xs ++ ys) ≡ sets (sets l (i + length xs) ys) i xs
+sets_last [] ys l i = let e : i + 0 ≡ i = omega arith in rw e
+sets_last (x ∷ xs) ys l i =
     let e : i + suc (length xs) ≡ suc i + length xs = omega arith in
     rw (
-      sets_last xs (set l i x) y (suc i),
+      sets_last xs ys (set l i x) (suc i),
       e,
-      set_comm l i (suc i + length xs) x y (λ f. omega arith),
+      set_before ys l x i (suc i + length xs) (omega arith),
     )
 
 -- ---- one text after another
@@ -62,15 +68,14 @@ module _ (l t m : List ℕ) (r : ℕ) (p : Put l 0 t m r) where
   pub over_bytes : length t ≤ length l → m ≡ t ++ drop (length t) l
   over_bytes h = p.bytes ∙ rw (← zero-add (length t)) (sets-eq t l 0 (omega arith))
 
--- ---- a text copied byte by byte
-module _ (l t : List ℕ) (at k : ℕ) where
-  pub copy_next : (m : List ℕ) → m ≡ sets l at (take k t) → k < length t
-      → set m (at + k) (get_or t k 0) ≡ sets l at (take (k + 1) t)
-  copy_next m e h =
-      let n : length (take k t) ≡ k = omega (arith, length-take k t) in
-      rw (add-one k, take-suc t k 0 h, ← sets_then (take k t) (get_or t k 0 ∷ []) l at, n, e)
-
-  pub copy_last : (m : List ℕ) → m ≡ sets l at (take k t) → k ≤ length t → length t ≤ k
-      → Put l at t m (at + k)
-  copy_last m e h i = let j : k ≡ length t = omega arith in
-      record { bytes = e ∙ ap (sets l at) (take_all k t i); next = ap (λ (n : ℕ). at + n) j }
+-- ---- a text copied over its part of the bytes
+pub copied : (l t copy : List ℕ) (at end : ℕ) → copy ≡ t → Room l at t → end ≡ at + length t
+    → Put l at t (put_mid at (end - at) l copy) end
+copied l t copy at end e h n =
+    let many : end - at ≡ length t = omega arith in
+    let after = drop (at + length t) l in
+    record {
+      bytes = rw (e, many, drop-drop (length t) at l, ← append_assoc (take at l) t after)
+          (sym (sets-eq t l at h));
+      next = n;
+    }

@@ -20,7 +20,7 @@ use whole::Whole;
 pub extern "C" fn vas_sea_level(elevation: i64, value: &mut u64) -> u32
     ensures { TellsCount (sea_level_step elevation) value.new result }
 {
-    tell::count(steps::distance::sea_level(Whole { v: elevation }), value)
+    tell::step(steps::distance::sea_level(Whole { v: elevation }), value)
 }
 
 // The combined factor of a sea level factor and a scale factor, the product of the two.
@@ -28,7 +28,7 @@ pub extern "C" fn vas_sea_level(elevation: i64, value: &mut u64) -> u32
 pub extern "C" fn vas_combine(sea: u64, scale: u64, value: &mut u64) -> u32
     ensures { TellsCount (combine_step sea scale) value.new result }
 {
-    tell::count(steps::distance::combine(sea, scale), value)
+    tell::step(steps::distance::combine(sea, scale), value)
 }
 
 // The grid distance of a measured one.
@@ -36,7 +36,7 @@ pub extern "C" fn vas_combine(sea: u64, scale: u64, value: &mut u64) -> u32
 pub extern "C" fn vas_grid(distance: u64, factor: u64, value: &mut u64) -> u32
     ensures { TellsCount (grid_step distance factor) value.new result }
 {
-    tell::count(steps::distance::grid(distance, factor), value)
+    tell::step(steps::distance::grid(distance, factor), value)
 }
 
 // ---- sines
@@ -86,7 +86,7 @@ pub extern "C" fn vas_cosine_in(table: &[u32; ENTRIES], angle: u32, value: &mut 
 pub extern "C" fn vas_from_mark(mark: u32, angle: u32, value: &mut u64) -> u32
     ensures { TellsCount (from_mark_step mark angle) value.new result }
 {
-    tell::count(steps::azimuth::from_mark(mark, angle), value)
+    tell::step(steps::azimuth::from_mark(mark, angle), value)
 }
 
 // The azimuth of each next leg, and the closing one.
@@ -94,7 +94,7 @@ pub extern "C" fn vas_from_mark(mark: u32, angle: u32, value: &mut u64) -> u32
 pub extern "C" fn vas_onward(before: u32, angle: u32, value: &mut u64) -> u32
     ensures { TellsCount (onward_step before angle) value.new result }
 {
-    tell::count(steps::azimuth::onward(before, angle), value)
+    tell::step(steps::azimuth::onward(before, angle), value)
 }
 
 // The angular misclosure.
@@ -110,7 +110,7 @@ pub extern "C" fn vas_misclosure(carried: u32, given: u32, value: &mut i64) -> u
 pub extern "C" fn vas_closes_angles(w: i64, n: u64, value: &mut bool) -> u32
     ensures { TellsVerdict (misclosure_test w n) value.new result }
 {
-    tell::verdict(steps::azimuth::closes_angles(Whole { v: w }, n), value)
+    tell::step(steps::azimuth::closes_angles(Whole { v: w }, n), value)
 }
 
 // The share of a misclosure at the j-th of n + 1 angles.
@@ -126,7 +126,7 @@ pub extern "C" fn vas_angle_share(w: i64, j: u64, n: u64, value: &mut i64) -> u3
 pub extern "C" fn vas_balanced(azimuth: u32, share: i64, value: &mut u64) -> u32
     ensures { TellsCount (balanced_step azimuth share) value.new result }
 {
-    tell::count(steps::azimuth::balanced(azimuth, Whole { v: share }), value)
+    tell::step(steps::azimuth::balanced(azimuth, Whole { v: share }), value)
 }
 
 // ---- latitude and departure
@@ -182,7 +182,7 @@ pub extern "C" fn vas_departure_in(
 pub extern "C" fn vas_closes(north: i64, east: i64, s: u64, value: &mut bool) -> u32
     ensures { TellsVerdict (closure_test north east s) value.new result }
 {
-    tell::verdict(
+    tell::step(
         steps::closure::closes(Whole { v: north }, Whole { v: east }, s),
         value,
     )
@@ -193,7 +193,7 @@ pub extern "C" fn vas_closes(north: i64, east: i64, s: u64, value: &mut bool) ->
 pub extern "C" fn vas_precision(north: i64, east: i64, s: u64, value: &mut u64) -> u32
     ensures { TellsCount (precision_step north east s) value.new result }
 {
-    tell::count(
+    tell::step(
         steps::closure::precision(Whole { v: north }, Whole { v: east }, s),
         value,
     )

@@ -77,11 +77,6 @@ pub by_test : {A : Type 0} (P : A → Type 0) {x y : A} (b : Bool) → (b ≡ tr
 by_test P true f g = f refl
 by_test P false f g = g refl
 
--- a choice, taken after a function
-pub cond_ap : {A B : Type 0} (f : A → B) (x y : A) (b : Bool) → f (cond b x y) ≡ cond b (f x) (f y)
-cond_ap f x y true = refl
-cond_ap f x y false = refl
-
 -- and a fact follows if each of two tests that may have passed tells it
 pub either : {A : Type 0} (p q : Bool) → (p ≡ true → A) → (q ≡ true → A) → (p || q) ≡ true → A
 either true q f g e = f refl

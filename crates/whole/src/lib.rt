@@ -1,14 +1,16 @@
-// Whole numbers with a sign, the desk's only signed arithmetic. To the prover the field of a
-// `Whole` is a number of ℤ, where a bare i64 is its bits, so no crate above this one meets bits.
-// Each promise gives the value, and where a caller needs it a bound on the size.
+// Whole numbers with a sign, the desk's only signed arithmetic. Each promise gives the value, and
+// where a caller needs it a bound on the size.
 #![tactic(auto)]
 
 ghost use Rattle.std.specs.Prelude.{◌≡◌, ◌+◌, ◌*◌, ◌<◌, ◌≤◌, ◌^◌, pos, neg_ℤ, nat_abs, ◌+ℤ◌, ◌-ℤ◌};
-ghost use Rattle.std.specs.Prelude.{◌*ℤ◌};
+ghost use Rattle.std.specs.Prelude.{◌*ℤ◌, Some};
+ghost use Rattle.std.specs.Fmt.{signed_decimal};
 ghost use Rattle.std.specs.Int.Signed.{lt_z};
 ghost use Rattle.whole.specs.Nearest.{half_up};
 
-#[derive(Clone, Copy)]
+use std::fmt;
+
+#[derive(Clone, Copy, Debug, PartialEq, Eq, PartialOrd, Ord)]
 pub struct Whole {
     pub v: i64,
 }
@@ -23,16 +25,11 @@ impl Whole {
         Whole { v: n as i64 }
     }
 
-    // The size of any amount. One is added before the sign is turned and again after, since the
-    // opposite of the least i64 is no i64.
+    // The size of any amount.
     pub fn size(self) -> u64
         ensures { result ≡ nat_abs self.v }
     {
-        if self.v < 0 {
-            (-(self.v + 1)) as u64 + 1
-        } else {
-            self.v as u64
-        }
+        self.v.unsigned_abs()
     }
 
     pub fn below_zero(self) -> bool
@@ -77,10 +74,29 @@ impl Whole {
         Whole { v: self.v * b.v }
     }
 
+    // Kept: it is public, and promises `lt_z`.
     pub fn less(self, b: Whole) -> bool
         ensures { result ≡ lt_z self.v b.v }
     {
-        self.v < b.v
+        self < b
+    }
+}
+
+// Any field of a tape that has no sign is an amount.
+impl From<u32> for Whole {
+    ghost from_gives = { λ n z. z.v ≡ pos n };
+
+    fn from(n: u32) -> Whole {
+        Whole { v: i64::from(n) }
+    }
+}
+
+// As its number, with a minus where it is negative.
+impl fmt::Display for Whole {
+    ghost output = { λ z. Some (signed_decimal z.v) };
+
+    fn fmt<W: fmt::Write>(&self, f: &mut fmt::Formatter<W>) -> fmt::Result {
+        write!(f, "{}", self.v)
     }
 }
 

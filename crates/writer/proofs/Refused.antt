@@ -8,18 +8,18 @@ use mathlib.Core.List.{List}
 use lib.Dec.{leb}
 use lib.ListN.{length}
 use Rattle.whole.proofs.Branch.{by_test}
-use Rattle.writer.specs.declared.Written.{Written}
-use Rattle.writer.specs.declared.Written.TheVariants.{Refused, Until}
+use Rattle.std.proofs.Common.{Result, Ok, Err}
+use Rattle.answer.specs.declared.Refused.{Refused}
 use Rattle.writer.specs.Write.{Wrote, answer_of, left_of, told_written}
 
 -- "zeros otherwise": whatever is refused, no next place is told
-none_next : (r : Written) → ((told_written r).number ≡ 0 → ⊥) → (told_written r).next ≡ 0
-none_next (Refused n p) some = refl
-none_next (Until n) some = absurd (some refl)
+none_next : (r : Result ℕ Refused) → ((told_written r).number ≡ 0 → ⊥) → (told_written r).next ≡ 0
+none_next (Err _) some = refl
+none_next (Ok n) some = absurd (some refl)
 
-pub refused_nothing : (out left : List ℕ) (place : ℕ) (good : Bool) (bytes : List ℕ) (r : Written)
-    → Wrote out left place good bytes r → ((told_written r).number ≡ 0 → ⊥)
-    → (left ≡ out) × ((told_written r).next ≡ 0)
+pub refused_nothing : (out left : List ℕ) (place : ℕ) (good : Bool) (bytes : List ℕ)
+    (r : Result ℕ Refused) → Wrote out left place good bytes r
+    → ((told_written r).number ≡ 0 → ⊥) → (left ≡ out) × ((told_written r).next ≡ 0)
 unfolding answer_of left_of
 refused_nothing out left place good bytes r w some =
     let Kept : List ℕ → Type 0 = λ l. l ≡ out in

@@ -1,6 +1,6 @@
 -- The writer of a record: what it lends on is the part from the place on, so that a record written
--- at its front stands at the place once the part is back. Its ways out are four, no place, no room,
--- a field out of range, and written, and `search wrote` finds the way.
+-- at its front stands at the place once the part is back. Its ways out are three, no room, a
+-- field out of range, and written, and `search wrote` finds the way.
 use Prim.Native.Nat.{ℕ, ◌+◌, ◌-◌, ◌≤◌, ◌<◌}
 use native.Mathlib.Omega.{arith}
 use mathlib.Core.Path.{◌≡◌, ap}
@@ -12,11 +12,12 @@ use lib.Seq.{take_all, drop-drop}
 use borrow.Author.Tests.{le-leb, lt-leb}
 use borrow.Rule.Slice.PartMut.{put_mid}
 use Rattle.records.specs.declared.Record.{Record}
-use Rattle.writer.specs.declared.Written.{Written}
+use Rattle.std.proofs.Common.{Result, Ok}
+use Rattle.answer.specs.declared.Refused.{Refused}
+use Rattle.answer.specs.declared.Refusal.TheVariants.{NoRoom, OutOfRange}
 use Rattle.records.specs.Record.{bytes_of_record}
 use Rattle.records.proofs.Bodies.{length_given, room_given}
-use Rattle.writer.specs.Write.{Wrote, answer_of, left_of, told_written}
-use Rattle.writer.specs.declared.Written.TheVariants.{Refused, Until}
+use Rattle.writer.specs.Write.{Wrote, answer_of, left_of, unwritten, told_written}
 
 -- ---- the part from the place on, lent to the writer of the case found
 module _ (given found : Record) (e : given ≡ found) (out : List ℕ) (place : ℕ) where
@@ -38,34 +39,29 @@ module _ (given found : Record) (e : given ≡ found) (out : List ℕ) (place : 
       let none = drop_of_length-le (drop place out) a in
       rw (e, p, rest, none, append-nil, drop-drop)
 
--- ---- the ways out; n is the length of the record's body
+-- ---- the ways out; n is the length of the record's bytes, and room what is left for them
 module _ (out : List ℕ) (place : ℕ) (good : Bool) (bytes : List ℕ) where
-  owed : {out' : List ℕ} {r : Written} → r ≡ answer_of out place good bytes
+  owed : {out' : List ℕ} {r : Result ℕ Refused} → r ≡ answer_of out place good bytes
       → out' ≡ left_of out place good bytes → Wrote out out' place good bytes r
   owed e f = record { answer = e; tells = ap told_written e; left = f }
 
-  no_room_lem : length out < place + length bytes → Wrote out out place good bytes (Refused 1 0)
+  pub short : (n room : ℕ) → length bytes ≡ n → room ≡ length out - place → room < n
+      → Wrote out out place good bytes (unwritten NoRoom 0)
   unfolding answer_of left_of
-  no_room_lem h = owed (rw (lt-leb _ _ h)) (rw (lt-leb _ _ h))
-
-  pub past : length out < place → Wrote out out place good bytes (Refused 1 0)
-  past h = no_room_lem (omega arith)
-
-  pub short : (n : ℕ) → length out - place ≤ n → length bytes ≡ 1 + n
-      → Wrote out out place good bytes (Refused 1 0)
-  short n h e = no_room_lem (omega arith)
+  short n room e is h =
+      let l : length out < place + length bytes = omega arith in
+      owed (rw (lt-leb _ _ l)) (rw (lt-leb _ _ l))
 
   module _ (fits : place + length bytes ≤ length out) (f : Bool) (is : f ≡ good) where
-    pub bad : f ≡ false → Wrote out out place good bytes (Refused 4 place)
+    pub bad : f ≡ false → Wrote out out place good bytes (unwritten OutOfRange place)
     unfolding answer_of left_of
     bad h = owed (rw (le-leb _ _ fits, ← is, h)) (rw (le-leb _ _ fits, ← is, h))
 
-    pub done : (n : ℕ) (out' : List ℕ) → length bytes ≡ 1 + n
+    pub done : (n : ℕ) (out' : List ℕ) → length bytes ≡ n
         → out' ≡ take place out ++ (bytes ++ drop (place + length bytes) out) → f ≡ true
-        → Wrote out out' place good bytes (Until (place + 1 + n))
+        → Wrote out out' place good bytes (Ok (place + n))
     unfolding answer_of left_of
     done n out' e p h =
-        owed (rw (le-leb _ _ fits, ← is, h) (ap Until (omega arith)))
-        (rw (le-leb _ _ fits, ← is, h) p)
+        owed (rw (le-leb _ _ fits, ← is, h, e)) (rw (le-leb _ _ fits, ← is, h) p)
 
-pub ruleset wrote = (past, short, bad, done, length_given, room_given)
+pub ruleset wrote = (short, bad, done, length_given, room_given)

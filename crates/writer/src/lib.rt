@@ -5,15 +5,8 @@ ghost use Rattle.std.specs.Prelude.{◌≡◌, true, ◌++◌, ◌+◌, ◌≤�
 ghost use Rattle.records.specs.Record.{good_record, bytes_of_record};
 ghost use Rattle.writer.specs.Write.{Wrote};
 
-use answer::refusal::{NO_ROOM, OUT_OF_RANGE};
+use answer::{Refusal, Refused};
 use records::Record;
-
-// What the writer of one record answers: the next place, or the refusal.
-#[derive(Clone, Copy)]
-pub enum Written {
-    Until(usize),
-    Refused { number: u32, place: usize },
-}
 
 mod writing;
 
@@ -47,30 +40,25 @@ fn lend_on(out: &mut [u8], place: usize, given: Record)
 }
 
 // One record, written at a place of the lent bytes: its room is tested, then its fields, and the
-// rest of the bytes is lent on to the writer of its kind. Any place may be given.
-pub fn write(out: &mut [u8], place: usize, given: Record) -> Written
+// rest of the bytes is lent on to the writer of its kind. Any place may be given. It answers the
+// next place.
+pub fn write(out: &mut [u8], place: usize, given: Record) -> Result<usize, Refused>
     ensures { Wrote out.old out.new place
         (good_record given) (bytes_of_record given) result }
 {
-    let body = records::ranges::body_len(records::ranges::kind(given));
-    if out.len() < place {
-        return Written::Refused {
-            number: NO_ROOM,
+    let bytes = given.kind().bytes();
+    if out.len().saturating_sub(place) < bytes {
+        return Err(Refused {
+            refusal: Refusal::NoRoom,
             place: 0,
-        };
+        });
     }
-    if out.len() - place <= body {
-        return Written::Refused {
-            number: NO_ROOM,
-            place: 0,
-        };
+    if !given.good() {
+        return Err(Refused {
+            refusal: Refusal::OutOfRange,
+            place,
+        });
     }
-    if records::ranges::good(given) {
-        lend_on(out, place, given);
-        return Written::Until(place + 1 + body);
-    }
-    Written::Refused {
-        number: OUT_OF_RANGE,
-        place,
-    }
+    lend_on(out, place, given);
+    Ok(place + bytes)
 }

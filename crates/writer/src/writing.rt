@@ -1,50 +1,32 @@
-// The stores of a record at the front of the bytes lent on, a function for each kind.
+// The stores of a record at the front of the bytes lent on, a function for each kind. A number of
+// two bytes is the lower half of one of four.
+#![tactic(auto, unfolding(records::specs::Record::body_of))]
+
 ghost use Rattle.std.specs.Prelude.{◌≡◌, ◌++◌, [], ◌∷◌, ◌+◌, ◌≤◌, length, drop, set, pos, nat_abs};
 ghost use Rattle.std.proofs.lemmas.List.Edits.{sets};
-ghost use Rattle.records.specs.Bytes.{two, four, bytes, written};
+ghost use Rattle.records.specs.Kinds.{byte_of};
+ghost use Rattle.records.specs.Bytes.{two, written};
 ghost use Rattle.answer.specs.Limit.{highest};
 ghost use Rattle.records.specs.Record.{row_kind, project_kind, start_kind, leg_kind, close_kind};
 ghost use Rattle.records.specs.Record.{body_of, bytes_of};
 
-use records::{CLOSE, LEG, PROJECT, ROW, START};
+use records::Kind;
 use whole::Whole;
 
-// ---- a kind, and numbers, the high byte first
-fn put_kind(out: &mut [u8], kind: u8)
+// ---- a kind, and the bytes of a field
+fn put_kind(out: &mut [u8], kind: Kind)
     requires { 1 ≤ length out.old }
-    ensures { out.new ≡ set out.old 0 kind }
+    ensures { out.new ≡ set out.old 0 (byte_of kind) }
 {
-    out[0] = kind;
+    out[0] = kind.byte();
 }
 
-fn put_two(out: &mut [u8], at: usize, n: u32)
-    requires { at + 2 ≤ length out.old }
-    ensures { out.new ≡ sets out.old at (bytes two n) }
+#[tactic(auto, using(crate::proofs::writing::Stores::put_at))]
+fn put(out: &mut [u8], at: usize, field: &[u8])
+    requires { at + length field.now ≤ length out.old }
+    ensures { out.new ≡ sets out.old at field.now }
 {
-    out[at] = (n / 256 % 256) as u8;
-    out[at + 1] = (n % 256) as u8;
-}
-
-fn put_four(out: &mut [u8], at: usize, n: u32)
-    requires { at + 4 ≤ length out.old }
-    ensures { out.new ≡ sets out.old at (bytes four n) }
-{
-    out[at] = (n / 16777216 % 256) as u8;
-    out[at + 1] = (n / 65536 % 256) as u8;
-    out[at + 2] = (n / 256 % 256) as u8;
-    out[at + 3] = (n % 256) as u8;
-}
-
-// What two bytes hold of an elevation.
-fn raw(elevation: Whole) -> u32
-    requires { nat_abs elevation.v ≤ highest }
-    ensures { result ≡ written two elevation.v }
-{
-    let feet = elevation.size() as u32;
-    if elevation.below_zero() {
-        return 65536 - feet;
-    }
-    feet
+    out[at..at + field.len()].copy_from_slice(field);
 }
 
 // ---- a record at the front of the bytes lent on
@@ -54,9 +36,9 @@ pub fn put_row(out: &mut [u8], minute: u32, factor: u32)
         ≡ bytes_of row_kind (pos minute ∷ pos factor ∷ [])
         ++ drop (1 + body_of row_kind) out.old }
 {
-    put_kind(out, ROW);
-    put_two(out, 1, minute);
-    put_four(out, 3, factor);
+    put_kind(out, Kind::Row);
+    put(out, 1, &minute.to_be_bytes()[2..]);
+    put(out, 3, &factor.to_be_bytes());
 }
 
 pub fn put_project(out: &mut [u8], latitude: u32, elevation: Whole)
@@ -66,10 +48,9 @@ pub fn put_project(out: &mut [u8], latitude: u32, elevation: Whole)
         ≡ bytes_of project_kind (pos latitude ∷ elevation.v ∷ [])
         ++ drop (1 + body_of project_kind) out.old }
 {
-    let feet = raw(elevation);
-    put_kind(out, PROJECT);
-    put_two(out, 1, latitude);
-    put_two(out, 3, feet);
+    put_kind(out, Kind::Project);
+    put(out, 1, &latitude.to_be_bytes()[2..]);
+    put(out, 3, &(elevation.v as i16).to_be_bytes());
 }
 
 pub fn put_start(out: &mut [u8], northing: u32, easting: u32, mark: u32)
@@ -78,10 +59,10 @@ pub fn put_start(out: &mut [u8], northing: u32, easting: u32, mark: u32)
         ≡ bytes_of start_kind (pos northing ∷ pos easting ∷ pos mark ∷ [])
         ++ drop (1 + body_of start_kind) out.old }
 {
-    put_kind(out, START);
-    put_four(out, 1, northing);
-    put_four(out, 5, easting);
-    put_four(out, 9, mark);
+    put_kind(out, Kind::Start);
+    put(out, 1, &northing.to_be_bytes());
+    put(out, 5, &easting.to_be_bytes());
+    put(out, 9, &mark.to_be_bytes());
 }
 
 pub fn put_leg(out: &mut [u8], angle: u32, distance: u32)
@@ -90,9 +71,9 @@ pub fn put_leg(out: &mut [u8], angle: u32, distance: u32)
         ≡ bytes_of leg_kind (pos angle ∷ pos distance ∷ [])
         ++ drop (1 + body_of leg_kind) out.old }
 {
-    put_kind(out, LEG);
-    put_four(out, 1, angle);
-    put_four(out, 5, distance);
+    put_kind(out, Kind::Leg);
+    put(out, 1, &angle.to_be_bytes());
+    put(out, 5, &distance.to_be_bytes());
 }
 
 pub fn put_close(out: &mut [u8], angle: u32, northing: u32, easting: u32, mark: u32)
@@ -101,9 +82,9 @@ pub fn put_close(out: &mut [u8], angle: u32, northing: u32, easting: u32, mark: 
         ≡ bytes_of close_kind (pos angle ∷ pos northing ∷ pos easting ∷ pos mark ∷ [])
         ++ drop (1 + body_of close_kind) out.old }
 {
-    put_kind(out, CLOSE);
-    put_four(out, 1, angle);
-    put_four(out, 5, northing);
-    put_four(out, 9, easting);
-    put_four(out, 13, mark);
+    put_kind(out, Kind::Close);
+    put(out, 1, &angle.to_be_bytes());
+    put(out, 5, &northing.to_be_bytes());
+    put(out, 9, &easting.to_be_bytes());
+    put(out, 13, &mark.to_be_bytes());
 }

@@ -1,35 +1,20 @@
 -- The words of the stations, taken from the first: the offsets of a station are those of the list
 -- of them, and so the sum that stops before the last station is the doubled area of that list.
-use Prim.Native.Nat.{ℕ, zero, suc, ◌+◌, ◌*◌, ◌^◌, ◌≤◌, ◌<◌}
+use Prim.Native.Nat.{ℕ, zero, suc, ◌+◌, ◌-◌, ◌*◌, ◌^◌, ◌≤◌, ◌<◌}
 use native.Mathlib.Omega.{arith}
 use native.Mathlib.Decide.{ℕ_discrete}
 use mathlib.Core.Path.{◌≡◌, refl, sym, ◌∙◌}
 use mathlib.Core.List.{List, [], ◌∷◌}
-use borrow.Author.Tests.{eq-eqb, ne_eqb}
-use lib.Dec.{eqb}
 use lib.ListN.{length, get_or, length-append, get_or-append}
 use lib.Seq.{get_or_at, get_or-append-add}
-use lib.IntN.{ℤ, pos, nat_abs, ◌+ℤ◌, ◌-ℤ◌, ◌*ℤ◌, +ℤ_idr}
+use lib.IntN.{ℤ, pos, ◌+ℤ◌, ◌-ℤ◌, ◌*ℤ◌, +ℤ_idr}
 use Rattle.whole.proofs.Ring.{ring, exps}
 use Rattle.steps.specs.Area.{northing, easting, cross, doubled_to, doubled}
 use Rattle.steps.specs.Course.{Axis, north, east}
 use Rattle.steps.proofs.Areas.{small_at, next_first, next_on, round_next, round_last}
-use Rattle.tape.specs.declared.Point.{Point}
-use Rattle.desk.specs.Traverse.{same, word_index}
-use Rattle.desk.specs.Inside.{word_at, taken_from, TakenAt, Ranged, AreaRanged}
-use Rattle.desk.specs.declared.area.Offsets.{Offsets}
-
--- ---- whether there is a loop
-module _ (p q : Point) where
-  pub same_known : p.north ≡ q.north → eqb p.east q.east ≡ same p q
-  same_known e = rw (eq-eqb p.north q.north e)
-
-  pub same_not : (p.north ≡ q.north → ⊥) → eqb p.north q.north ≡ same p q
-  same_not n = rw (ne_eqb p.north q.north n)
-
--- a word, which the code has in a local
-pub word_fits : (z w : ℤ) → z ≡ w → nat_abs w < 2 ^ 40 → nat_abs z < 2 ^ 62
-word_fits z w e h = rw e (omega arith)
+use Rattle.desk.specs.Traverse.{word_index}
+use Rattle.desk.specs.Inside.{word_at, station_at, taken_at, taken_from, Bounded, AreaRanged}
+use Rattle.desk.specs.declared.vector.Vector.{Vector}
 
 -- ---- the list of what is taken from the first station
 module _ (words : List ℤ) where
@@ -40,8 +25,7 @@ module _ (words : List ℤ) where
       omega (
         arith,
         length-append (taken_from words k)
-            ((word_at words (2 * k) -ℤ word_at words 0) ∷
-            (word_at words (2 * k + 1) -ℤ word_at words 1) ∷ []),
+            ((taken_at words k).north.v ∷ (taken_at words k).east.v ∷ []),
         taken_length k,
       )
 
@@ -59,41 +43,32 @@ module _ (words : List ℤ) where
   taken_room north k n h = omega (arith, taken_length n)
   taken_room east k n h = omega (arith, taken_length n)
 
-  taken_at : (axis : Axis) (k n : ℕ) → k < n
+  taken_word : (axis : Axis) (k n : ℕ) → k < n
       → get_or (taken_from words n) (word_index axis k) (pos 0) ≡ word_at words
       (word_index axis k) -ℤ word_at words (word_index axis 0)
   unfolding taken_from
-  taken_at axis k zero h = absurd (omega arith)
-  taken_at axis k (suc n) h =
+  taken_word axis k zero h = absurd (omega arith)
+  taken_word axis k (suc n) h =
       elim (ℕ_discrete k n) [
         | yes e ↦ rw e (taken_last axis n)
         | no e ↦ get_or-append (taken_from words n) _ (pos 0) (word_index axis k)
-            (taken_room axis k n (omega arith)) ∙ taken_at axis k n (omega arith)
+            (taken_room axis k n (omega arith)) ∙ taken_word axis k n (omega arith)
       ]
 
   module _ (n : ℕ) (p : AreaRanged n words) where
-    -- ---- the words of a station, and of the first
-    pub north_fits : (k : ℕ) → k < n → nat_abs (word_at words (2 * k)) < 2 ^ 40
-    north_fits k h = p.north k h
-
-    pub first_north_fits : nat_abs (word_at words 0) < 2 ^ 40
-    first_north_fits = p.north 0 (omega (arith, p.some))
-
-    pub east_fits : (k : ℕ) → k < n → nat_abs (word_at words (2 * k + 1)) < 2 ^ 40
-    east_fits k h = p.east k h
-
-    pub first_east_fits : nat_abs (word_at words 1) < 2 ^ 40
-    first_east_fits = p.east 0 (omega (arith, p.some))
+    -- ---- the first station, and any
+    pub first_within : Bounded (2 ^ 40) (station_at words 0)
+    first_within = p.each 0 (omega (arith, p.some))
 
     -- ---- the offsets of a station
-    module _ (k : ℕ) (o : Offsets) (h : k < n) (t : TakenAt words k o) where
+    module _ (k : ℕ) (o : Vector) (h : k < n) (t : o ≡ taken_at words k) where
       north_is : o.north.v ≡ northing (taken_from words n) k
-      north_is = t.north ∙ sym (taken_at north k n h)
+      north_is = rw t (sym (taken_word north k n h))
 
       east_is : o.east.v ≡ easting (taken_from words n) k
-      east_is = t.east ∙ sym (taken_at east k n h)
+      east_is = rw t (sym (taken_word east k n h))
 
-      pub ranged : Ranged o
+      ranged : Bounded 130000000 o
       ranged =
           let l = taken_from words n in
           record {
@@ -102,10 +77,10 @@ module _ (words : List ℤ) where
           }
 
     -- ---- the sum
-    pub sum_next : (i : ℕ) (here there : Offsets) (sum z r : ℤ) → r ≡ sum +ℤ z
+    sum_next : (i : ℕ) (here there : Vector) (sum z r : ℤ) → r ≡ sum +ℤ z
         → z ≡ here.north.v *ℤ there.east.v -ℤ there.north.v *ℤ here.east.v
-        → TakenAt words i here
-        → TakenAt words (i + 1) there → i + 1 < n → sum ≡ doubled_to (taken_from words n) i
+        → here ≡ taken_at words i
+        → there ≡ taken_at words (i + 1) → i + 1 < n → sum ≡ doubled_to (taken_from words n) i
         → r ≡ doubled_to (taken_from words n) (i + 1)
     unfolding cross
     sum_next i here there sum z r e f s t h g =
@@ -121,21 +96,45 @@ module _ (words : List ℤ) where
         round_next l i n (i + 1) sum z r e c (next_on i n k (λ q. omega arith)) g
         (sym (taken_length n))
 
+    -- a station and the one before it, as they are at hand on the way round
+    module _ (k : ℕ) (here there : Vector) (some : 1 ≤ k) (h : k < n)
+        (s : here ≡ taken_at words (k - 1)) (t : there ≡ taken_at words k) where
+      pub here_ranged : Bounded 130000000 here
+      here_ranged = ranged (k - 1) here (omega arith) s
+
+      pub there_ranged : Bounded 130000000 there
+      there_ranged = ranged k there h t
+
+      pub next_is : there ≡ taken_at words (k + 1 - 1)
+      next_is = let i : k + 1 - 1 ≡ k = omega arith in rw i t
+
+      pub sum_on : (sum z r : ℤ) → r ≡ sum +ℤ z
+          → z ≡ here.north.v *ℤ there.east.v -ℤ there.north.v *ℤ here.east.v
+          → sum ≡ doubled_to (taken_from words n) (k - 1)
+          → r ≡ doubled_to (taken_from words n) (k + 1 - 1)
+      sum_on sum z r e f g =
+          let i : k ≡ k - 1 + 1 = omega arith in
+          let j : k + 1 - 1 ≡ k - 1 + 1 = omega arith in
+          rw j (sum_next (k - 1) here there sum z r e f s (rw i at t) (omega arith) g)
+
     -- two stations, one of them the first, make no triangle with it
     last_nothing : (i : ℕ) → pos 0 ≡ cross (taken_from words n) i 0
     unfolding cross
     last_nothing i =
         let l = taken_from words n in
         let h : 0 < n = omega (arith, p.some) in
-        rw (taken_at north 0 n h, taken_at east 0 n h)
+        rw (taken_word north 0 n h, taken_word east 0 n h)
         (ring (northing l i ∷ easting l i ∷ word_at words 0 ∷ word_at words 1 ∷ [])
         (λ v. search exps) tt)
 
-    pub sum_last : (i : ℕ) (sum : ℤ) → sum ≡ doubled_to (taken_from words n) i → i < n → n ≤ i + 1
-        → sum ≡ doubled (taken_from words n)
-    sum_last i sum e h k =
+    pub sum_last : (k : ℕ) (sum : ℤ) → sum ≡ doubled_to (taken_from words n) (k - 1) → 1 ≤ k
+        → (1 ≤ n → k ≤ n) → n ≤ k → sum ≡ doubled (taken_from words n)
+    sum_last k sum e some low high =
         let l = taken_from words n in
         let m = sym (taken_length n) in
-        let last = round_next l i n 0 sum (pos 0) sum (sym (+ℤ_idr sum)) (last_nothing i)
-        (next_first i n (omega arith)) e m in
-        round_last l (i + 1) n sum last (omega arith) (omega arith) m
+        let i : k - 1 < n = omega (arith, low p.some) in
+        let j : n ≤ k - 1 + 1 = omega arith in
+        let last = round_next l (k - 1) n 0 sum (pos 0) sum (sym (+ℤ_idr sum))
+        (last_nothing (k - 1))
+        (next_first (k - 1) n (omega (arith, low p.some))) e m in
+        round_last l (k - 1 + 1) n sum last (omega (arith, low p.some)) j m

@@ -1,34 +1,36 @@
 -- The lines of the stations, one after the other, and the area's: where there is room for all of
 -- them there is room for each, and one more line makes the lines of one station more.
-use Prim.Native.Nat.{ℕ, zero, suc, ◌+◌, ◌*◌, ◌≤◌, ◌<◌}
+use Prim.Native.Nat.{ℕ, zero, suc, ◌+◌, ◌≤◌, ◌<◌}
 use native.Mathlib.Omega.{arith}
 use native.Mathlib.Nat.{eq-or-lt_of_le}
 use native.Mathlib.Numerals.{add-one}
-use mathlib.Core.Path.{◌≡◌, refl, subst}
+use mathlib.Core.Path.{◌≡◌, refl}
 use mathlib.Core.Bool.{Bool, true, false}
 use mathlib.Core.List.{List, ◌++◌}
 use mathlib.Core.Logic.{⊎_elim}
-use lib.ListN.{length, get_or, length-append}
-use lib.IntN.{ℤ, pos}
+use lib.ListN.{length, length-append}
+use lib.IntN.{ℤ}
 use Rattle.text.specs.Text.{ascii, decimal, plain}
 use Rattle.text.specs.Room.{Room, Put}
 use Rattle.text.proofs.Putting.{room_first, room_then, then}
+use Rattle.desk.specs.Inside.{station_at}
+use Rattle.desk.specs.declared.vector.Vector.{Vector}
 use Rattle.desk.specs.Sheet.{station_line, line_of, station_lines, area_line}
 
 module _ (words : List ℤ) where
   -- ---- the place of a station, after its number
-  module _ (l m : List ℕ) (at k i : ℕ) (y z : ℤ) (p : Put l at (decimal k) m i)
-      (e : y ≡ get_or words (2 * k) (pos 0)) (f : z ≡ get_or words (2 * k + 1) (pos 0)) where
-    pub place_room : Room l at (line_of words k)
-        → Room m i ((ascii " " ++ plain 2 y) ++ (ascii " " ++ plain 2 z) ++ ascii "\n")
-    unfolding line_of station_line
-    place_room h = rw (e, f) (room_then l at (decimal k) _ m i p h)
+  module _ (l m : List ℕ) (at k i : ℕ) (x : Vector) (p : Put l at (decimal k) m i)
+      (e : x ≡ station_at words k) where
+    abbrev coordinates : List ℕ
+    coordinates = (ascii " " ++ plain 2 x.north.v) ++ (ascii " " ++ plain 2 x.east.v) ++ ascii "\n"
 
-    pub place_put : (o : List ℕ) (r : ℕ)
-        → Put m i ((ascii " " ++ plain 2 y) ++ (ascii " " ++ plain 2 z) ++ ascii "\n") o r
-        → Put l at (line_of words k) o r
+    pub place_room : Room l at (line_of words k) → Room m i coordinates
     unfolding line_of station_line
-    place_put o r q = then l at (decimal k) _ m i p o r (rw (e, f) at q)
+    place_room h = rw e (room_then l at (decimal k) _ m i p h)
+
+    pub place_put : (o : List ℕ) (r : ℕ) → Put m i coordinates o r → Put l at (line_of words k) o r
+    unfolding line_of station_line
+    place_put o r q = then l at (decimal k) _ m i p o r (rw e at q)
 
   -- ---- the lines of all stations
   lines_up : (k n : ℕ) → k ≤ n → length (station_lines words k) ≤ length (station_lines words n)
@@ -58,10 +60,6 @@ module _ (words : List ℤ) where
     unfolding station_lines
     lines_next o r q = rw (add-one k)
         (then l at (station_lines words k) (line_of words k) m i p o r q)
-
-    pub lines_last : (n : ℕ) → k ≤ n → n ≤ k → Put l at (station_lines words n) m i
-    lines_last n h g = let e : k ≡ n = omega arith in
-        subst (λ (j : ℕ). Put l at (station_lines words j) m i) e p
 
 -- ---- the last line, which only a loop has
 module _ (l : List ℕ) (at : ℕ) (z : ℤ) (b : Bool) where

@@ -1,19 +1,26 @@
 -- `print` meets its contract: no room, the text of the sheet, or the line of its refusal.
+use Rattle.std.proofs.Common.{rules}
 use Rattle.desk.proofs.Printing.{text_length, text_over}
 use Rattle.desk.proofs.Printing.{refusal_room, refusal_length, refusal_over}
 use Rattle.desk.proofs.print.Goals as goal
 
 pub put_count-requires : goal.put_count-requires
-put_count-requires c = search refusal_room
+put_count-requires c = search (refusal_room, rules)
 
-pub returns-in-Text-clause-bytes : goal.returns-in-Text-clause-bytes
-returns-in-Text-clause-bytes c = search text_over
+pub returns-in-Ok-clause-bytes : goal.returns-in-Ok-clause-bytes
+returns-in-Ok-clause-bytes c =
+    text_over _ _ c.if-out-lt-SHEET_BYTES.false _ _ c.in-Ok.ensures
 
-pub returns-in-Text-clause-long : goal.returns-in-Text-clause-long
-returns-in-Text-clause-long c = search text_length
+pub returns-in-Ok-clause-long : goal.returns-in-Ok-clause-long
+returns-in-Ok-clause-long c =
+    text_length _ _ c.if-out-lt-SHEET_BYTES.false _ _ c.in-Ok.ensures
 
-pub returns-in-Refused-clause-bytes : goal.returns-in-Refused-clause-bytes
-returns-in-Refused-clause-bytes c = search refusal_over
+pub returns-in-Err-clause-bytes : goal.returns-in-Err-clause-bytes
+returns-in-Err-clause-bytes c =
+    refusal_over _ _ c.if-out-lt-SHEET_BYTES.false _ _ c.in-Err.ensures _ (search rules) _ _
+    c.put_count.ensures
 
-pub returns-in-Refused-clause-long : goal.returns-in-Refused-clause-long
-returns-in-Refused-clause-long c = search refusal_length
+pub returns-in-Err-clause-long : goal.returns-in-Err-clause-long
+returns-in-Err-clause-long c =
+    refusal_length _ _ c.if-out-lt-SHEET_BYTES.false _ _ c.in-Err.ensures _ (search rules) _ _
+    c.put_count.ensures

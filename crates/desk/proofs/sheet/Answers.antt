@@ -1,14 +1,6 @@
--- `sheet` meets its contract: no room, the refusal of a tape that does not read, or the sheet of
--- one that does.
-use Rattle.desk.proofs.Stepping.{known_is}
-use Rattle.desk.proofs.Paging.{no_room_lem, refused_showed}
+-- `sheet` meets its contract: the entries of the table that it lends are the rules'.
+use Rattle.desk.proofs.OwnTable.{own_showed}
 use Rattle.desk.proofs.sheet.Goals as goal
 
-pub returns-then-out-lt-SHEET_BYTES : goal.returns-then-out-lt-SHEET_BYTES
-returns-then-out-lt-SHEET_BYTES c = search no_room_lem
-
-pub compose-requires-clause-known : goal.compose-requires-clause-known
-compose-requires-clause-known c = search known_is
-
-pub returns-in-Refused : goal.returns-in-Refused
-returns-in-Refused c = search refused_showed
+pub returns : goal.returns
+returns c = search own_showed

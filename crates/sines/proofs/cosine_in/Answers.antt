@@ -1,22 +1,20 @@
 -- `cosine_in` meets its contract: the angle a right angle ahead folds to what the folded angle
 -- leaves to 90 degrees.
-use borrow.Author.Rules.{rules}
-use Rattle.answer.specs.Told.{told_amount}
-use Rattle.sines.proofs.Quadrants.{cosine_told, too_far}
+use Rattle.std.proofs.Common.{rules}
+use Rattle.answer.specs.Told.{told}
+use Rattle.sines.proofs.Turns.{no_angle, cosine_told}
 use Rattle.sines.proofs.cosine_in.Goals as goal
 
-pub returns-then-angle-ge-CIRCLE-clause-is : goal.returns-then-angle-ge-CIRCLE-clause-is
-unfolding told_amount
-returns-then-angle-ge-CIRCLE-clause-is c = search too_far
+pub returns-in_err-in_circle-clause-is : goal.returns-in_err-in_circle-clause-is
+returns-in_err-in_circle-clause-is c = search (rules, no_angle)
 
-pub returns-then-angle-ge-CIRCLE-clause-size : goal.returns-then-angle-ge-CIRCLE-clause-size
-unfolding told_amount
-returns-then-angle-ge-CIRCLE-clause-size c = search rules
+pub returns-in_err-in_circle-clause-size : goal.returns-in_err-in_circle-clause-size
+unfolding told
+returns-in_err-in_circle-clause-size c = search rules
 
 pub returns-clause-is : goal.returns-clause-is
-unfolding told_amount
-returns-clause-is c = search cosine_told
+returns-clause-is c = search (rules, cosine_told)
 
 pub returns-clause-size : goal.returns-clause-size
-unfolding told_amount
+unfolding told
 returns-clause-size c = search rules

@@ -5,8 +5,8 @@ use native.Mathlib.Omega.{arith}
 use Rattle.sines.proofs.Own.{lent_line}
 use Rattle.sines.proofs.past_minute.Goals as goal
 
-pub returns-then-e-f-clause-is : goal.returns-then-e-f-clause-is
-returns-then-e-f-clause-is c =
+pub returns-then-f-le-NINE_DECIMALS-clause-is : goal.returns-then-f-le-NINE_DECIMALS-clause-is
+returns-then-f-le-NINE_DECIMALS-clause-is c =
     lent_line _ _ _ _ _ c.rise.ensures.is _ (omega arith) (omega arith) (omega arith)
 
 pub returns-clause-is : goal.returns-clause-is

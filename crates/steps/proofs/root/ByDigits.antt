@@ -5,6 +5,7 @@ use Prim.Native.Nat.{ℕ, zero, suc, ◌+◌, ◌-◌, ◌*◌, ◌/◌, ◌%◌
 use native.Mathlib.Nat.{le_antisymm, le-div_iff_mul-le, div-lt_iff_lt-mul}
 use native.Mathlib.Nat.{one-le-pow, pow-succ', pow-le-pow_right}
 use native.Mathlib.Decide.{dec_le}
+use native.Mathlib.Numerals.{add-one}
 use native.Mathlib.Omega.{arith}
 use borrow.Author.Tests.{le-leb, lt-leb}
 use mir.Syntax.{w64}
@@ -134,9 +135,8 @@ one_more left h k = omega arith
 next_power : (left : ℕ) → 0 < left → left ≤ 9 → 100 ^ (9 - (left - 1)) ≡ 100 * 100 ^ (9 - left)
 next_power left h k = rw (one_more left h k) (pow-succ' 100 (9 - left))
 
-pub passed : (x number left : ℕ) → number ≡ x * 100 ^ (9 - left) → 0 < left → left ≤ 9
-    → 100 * number ≡ x * 100 ^ (9 - (left - 1))
-passed x number left e h k = rw (next_power left h k) (omega arith)
+pub passed : (x number n : ℕ) → number ≡ x * 100 ^ n → number * 100 ≡ x * 100 ^ (n + 1)
+passed x number n e = rw (add-one n, pow-succ' 100 n) (omega arith)
 
 -- a number without pairs has no root
 worked_none : (k : ℕ) → worked k 0 ≡ record { root = 0; remainder = 0 }
@@ -163,21 +163,22 @@ pub record Brought (x number left : ℕ) (w : Working) : Type 0 where
 
 pub brought_first : (x number left : ℕ) → x < 100 ^ 9 → left ≤ 9 → number < 100 ^ 9
     → number ≡ x * 100 ^ (9 - left)
-    → Brought x number left (record { root = 0; remainder = 0 })
+    → Brought x number (left - 0) (record { root = 0; remainder = 0 })
 brought_first x number left i h k e =
-    record {
+    let all : left - 0 ≡ left = omega arith in
+    rw all (record {
       front = 0;
       is = sym (worked_none (9 - left));
       parts = omega arith;
       number_nine = k;
       x_nine = i;
       some = h;
-    }
+    })
 
 module _ (x number left : ℕ) (w : Working) (b : Brought x number left w) where
-  pub brought_next : (v : Working) → v ≡ with_pair w (number / 100 ^ 8) → 0 < left
+  one_pair : (v : Working) → v ≡ with_pair w (number / 100 ^ 8) → 0 < left
       → Brought x (number % 100 ^ 8 * 100) (left - 1) v
-  brought_next v f h =
+  one_pair v f h =
       let t = number / 100 ^ 8 in
       let next = worked_next (9 - left) b.front t (omega (arith, b.number_nine)) in
       let same = f ∙ ap (λ (u : Working). with_pair u t) b.is ∙ sym next in
@@ -215,3 +216,11 @@ module _ (x number left : ℕ) (w : Working) (b : Brought x number left w) where
       let p = rw z at b.parts in
       let e : b.front ≡ x = omega (arith, b.number_nine) in
       rw (z, e) at b.is
+
+-- so one more pair is brought down, of `end` of which `count` were
+pub brought_next : (x number end count : ℕ) (w v : Working) → Brought x number (end - count) w
+    → v ≡ with_pair w (number / 100 ^ 8) → count < end
+    → Brought x (number % 100 ^ 8 * 100) (end - (count + 1)) v
+brought_next x number end count w v b f h =
+    let e : end - count - 1 ≡ end - (count + 1) = omega arith in
+    rw e at (one_pair x number (end - count) w b v f (omega arith))

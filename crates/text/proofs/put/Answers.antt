@@ -1,6 +1,6 @@
-use borrow.Author.Rules.{rules}
-use Rattle.text.proofs.Putting.{copy_next}
+-- `put` meets its contract: the text is copied over its part of the bytes.
+use Rattle.text.proofs.Putting.{copied}
 use Rattle.text.proofs.put.Goals as goal
 
-pub loop-k-preserved : goal.loop-k-preserved
-loop-k-preserved c = (search rules, search rules, search copy_next)
+pub returns : goal.returns
+returns c = search copied

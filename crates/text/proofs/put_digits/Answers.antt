@@ -1,12 +1,20 @@
+use Prim.Native.Nat.{◌+◌, ◌-◌}
+use native.Mathlib.Omega.{arith}
 use borrow.Author.Rules.{rules}
-use Rattle.text.proofs.Digits.{digits_room, digit_next, digit_last}
+use mathlib.Core.Path.{◌≡◌, refl}
+use Rattle.text.proofs.Digits.{digits_room, digit_next, none_left}
 use Rattle.text.proofs.put_digits.Goals as goal
 
-pub loop-left-init : goal.loop-left-init
-loop-left-init c = (search rules, search digits_room, search rules, search rules)
+pub loop-i-init : goal.loop-i-init
+loop-i-init c = (search digits_room, refl, refl)
 
-pub loop-left-preserved : goal.loop-left-preserved
-loop-left-preserved c = (search rules, search rules, search rules, search digit_next)
+pub loop-i-preserved : goal.loop-i-preserved
+loop-i-preserved c =
+    let one : c.loop-i.i - 1 + 1 ≡ c.loop-i.i = omega arith in (
+      search rules,
+      search rules,
+      digit_next _ _ _ _ _ (c.loop-i.i - 1) c.loop-i.rest _ refl (rw one c.loop-i.invariant.2),
+    )
 
 pub returns : goal.returns
-returns c = search digit_last
+returns c = search (rules, none_left)

@@ -1,5 +1,5 @@
 -- `put_digits` meets its contract. The loop's invariant: with the digits of the rest put in front
--- of those that stand, all digits stand. The measure is what is left.
+-- of those that stand, all digits stand.
 use Prim.Native.Nat.{◌+◌, ◌≤◌}
 use mathlib.Core.Path.{◌≡◌}
 use lib.ListN.{length}
@@ -7,10 +7,7 @@ use lib.Seq.{sets}
 use Rattle.text.specs.Text.{digits}
 use Rattle.text.proofs.put_digits.Given as goal
 
-abbrev pub invariant-loop-left : goal.invariant-loop-left
-invariant-loop-left l =
-    (l.left ≤ l.k) × (l.at + l.k ≤ length l.initial.out) × (length l.out ≡ length l.initial.out) ×
-    (sets l.out l.at (digits l.left l.rest) ≡ sets l.initial.out l.at (digits l.k l.n))
-
-abbrev pub decreases-loop-left : goal.decreases-loop-left
-decreases-loop-left l = l.left
+abbrev pub invariant-loop-i : goal.invariant-loop-i
+invariant-loop-i l =
+    (l.at + l.k ≤ length l.initial.out) × (length l.out ≡ length l.initial.out) ×
+    (sets l.out l.at (digits l.i l.rest) ≡ sets l.initial.out l.at (digits l.k l.n))

@@ -1,15 +1,12 @@
--- `balance` meets its contract. The loop's invariant: the azimuths before leg k are balanced, the
--- others are as they were. The measure is the legs that are left.
-use Prim.Native.Nat.{◌-◌, ◌≤◌}
+-- `balance` meets its contract. The loop's invariant: the legs before leg k are balanced, the
+-- others are as they were.
 use mathlib.Core.Path.{◌≡◌}
-use lib.ListN.{length}
-use Rattle.desk.specs.Inside.{balanced_in}
+use lib.ListN.{take}
+use Rattle.whole.specs.Filled.{filled}
+use Rattle.desk.specs.Inside.{balanced_leg}
 use Rattle.desk.proofs.angles.balance.Given as goal
 
 abbrev pub invariant-loop-k : goal.invariant-loop-k
 invariant-loop-k l =
-    (l.k ≤ l.legs) × (l.azimuths ≡ balanced_in l.w.v l.ahead l.angles l.k l.initial.azimuths)
-    × (length l.azimuths ≡ length l.initial.azimuths)
-
-abbrev pub decreases-loop-k : goal.decreases-loop-k
-decreases-loop-k l = l.legs - l.k
+    l.leg-items
+    ≡ filled (balanced_leg l.w.v l.ahead l.angles l.fn.legs) l.k (take l.n l.fn.legs)

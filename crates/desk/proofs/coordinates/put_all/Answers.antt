@@ -1,4 +1,3 @@
-use borrow.Author.Rules.{rules}
 use mathlib.Core.Path.{refl}
 use Rattle.desk.specs.Inside.{put_to}
 use Rattle.desk.proofs.Settling.{put_next}
@@ -6,7 +5,7 @@ use Rattle.desk.proofs.coordinates.put_all.Goals as goal
 
 pub loop-k-init : goal.loop-k-init
 unfolding put_to
-loop-k-init c = (search rules, refl, refl)
+loop-k-init c = refl
 
 pub loop-k-preserved : goal.loop-k-preserved
-loop-k-preserved c = (search rules, search put_next, search rules)
+loop-k-preserved c = search put_next

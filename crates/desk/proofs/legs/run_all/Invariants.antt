@@ -1,20 +1,13 @@
 -- `run_all` meets its contract. The loop's invariant: the sums are those of the station reached,
--- and the lists hold them for every station up to it. The measure is the legs that are left.
+-- and the list holds those of every station up to it.
+use Prim.Native.Nat.{◌+◌}
 use mathlib.Core.Path.{◌≡◌}
-use Prim.Native.Nat.{◌-◌, ◌≤◌}
-use lib.ListN.{length}
 use Rattle.sines.specs.Sine.{entry_in}
-use Rattle.desk.specs.Inside.{with_legs, Sound, Stands, Ran}
+use Rattle.whole.specs.Filled.{filled}
+use Rattle.desk.specs.Inside.{with_legs, sums_at}
 use Rattle.desk.proofs.legs.run_all.Given as goal
 
 abbrev pub invariant-loop-k : goal.invariant-loop-k
 invariant-loop-k l =
-    let whole = with_legs l.b l.azimuths l.distances in
-    (l.k ≤ l.b.legs) × Sound whole × Stands (entry_in l.table) whole l.k l.s × Ran
-    (entry_in l.table) whole l.k l.spots l.runs × (64 ≤ length l.azimuths)
-    × (64 ≤ length l.distances)
-    × (130 ≤ length l.spots) × (65 ≤ length l.runs) × (length l.spots ≡ length l.initial.spots) ×
-    (length l.runs ≡ length l.initial.runs)
-
-abbrev pub decreases-loop-k : goal.decreases-loop-k
-decreases-loop-k l = l.b.legs - l.k
+    let at = sums_at (entry_in l.table) (with_legs l.b l.legs) in
+    record { sums : l.s ≡ at l.k; kept : l.kept ≡ filled at (l.k + 1) l.fn.kept }

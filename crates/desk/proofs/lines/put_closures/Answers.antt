@@ -3,9 +3,9 @@ use Rattle.text.proofs.Putting.{room_one, room_two, room_three, then}
 use Rattle.desk.specs.Sheet.{closures_text}
 use Rattle.desk.proofs.lines.put_closures.Goals as goal
 
-pub put_named-i-requires-clause-room : goal.put_named-i-requires-clause-room
+pub put_named-i-requires : goal.put_named-i-requires
 unfolding closures_text
-put_named-i-requires-clause-room c = search room_one
+put_named-i-requires c = search room_one
 
 pub put_feet-j-requires : goal.put_feet-j-requires
 unfolding closures_text

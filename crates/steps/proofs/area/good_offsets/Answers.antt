@@ -1,13 +1,14 @@
-use native.Mathlib.Omega.{arith}
-use borrow.Author.Tests.{not-true, not-false}
-use Rattle.steps.proofs.Areas.{small_next, small_stop, small_end}
+-- `good_offsets` meets its contract: `all` is the test of the definition, word by word.
+use mathlib.Core.Path.{◌∙◌}
+use borrow.Author.Tests.{tests}
+use Rattle.std.proofs.Common.{rules}
+use Rattle.std.proofs.lemmas.Iterator.{YieldsList-from_slice}
+use Rattle.std.proofs.lemmas.Iterator.Search.{all_from_yields_List}
+use Rattle.steps.proofs.Areas.{small, all_good}
 use Rattle.steps.proofs.area.good_offsets.Goals as goal
 
-pub returns-then-not-near : goal.returns-then-not-near
-returns-then-not-near c = search (small_stop, not-true)
-
-pub loop-i-preserved : goal.loop-i-preserved
-loop-i-preserved c = (omega arith, search (small_next, not-false))
-
 pub returns : goal.returns
-returns c = search small_end
+returns c =
+    let l = c.args.offsets.now in
+    all_from_yields_List small _ _ c.all.result c.all.ensures.ran (YieldsList-from_slice l cc)
+    (λ x b q k. search (rules, tests)) ∙ all_good l

@@ -1,17 +1,30 @@
 -- `latitude_in` meets its contract: the cosine is what counts along the axis north.
-use Rattle.sines.specs.Sine.{entry_in}
+use Rattle.std.proofs.Common.{rules}
+use Rattle.std.proofs.lemmas.Result.{err_from_is_err_and}
 use Rattle.sines.proofs.Own.{lent_entries}
 use Rattle.steps.specs.Course.{sine_along, north}
-use Rattle.steps.proofs.Moving.{along_small, along_moved}
+use Rattle.steps.proofs.Moving.{too_long, no_sine, small, sine_told}
 use Rattle.steps.proofs.course.latitude_in.Goals as goal
 
-pub moved-requires : goal.moved-requires
+pub returns-in_err-at_most : goal.returns-in_err-at_most
+returns-in_err-at_most c = search (rules, too_long)
+
+pub returns-in_err-cosine : goal.returns-in_err-cosine
 unfolding sine_along
-moved-requires c =
-    let s = c.args in
-    along_small (entry_in s.table.now) north s.azimuth _ c.cosine_in.ensures.is
-    (lent_entries s.table.now)
+returns-in_err-cosine c =
+    let p = err_from_is_err_and c.from_residual-in_err-cosine.result
+    c.from_residual-in_err-cosine.ensures.1 in
+    rw p.1 (no_sine _ north _ _ c.cosine_in.ensures.is _ _ _ c.in_err-cosine.was)
+
+pub moved-requires-clause-size_le_nine_decimals : goal.moved-requires-clause-size_le_nine_decimals
+unfolding sine_along
+moved-requires-clause-size_le_nine_decimals c =
+    let sine = c.in_ok-cosine.cosine in
+    small _ north _ _ c.cosine_in.ensures.is sine (search rules) (lent_entries _)
 
 pub returns : goal.returns
 unfolding sine_along
-returns c = search along_moved
+returns c =
+    let sine = c.in_ok-cosine.cosine in
+    sine_told _ north _ _ c.cosine_in.ensures.is sine (search rules) _ _ (search rules)
+    c.moved.ensures

@@ -1,21 +1,16 @@
--- `grid` meets its contract: each test is a bound of the range, and in range the product is far
--- below 2 ^ 63.
+-- `grid` meets its contract: each test is a range, and in range the product is far below 2 ^ 63.
+use Rattle.std.proofs.Common.{rules}
 use Rattle.answer.proofs.Telling.{ranges}
+use Rattle.steps.proofs.Ranges.{outside}
 use Rattle.steps.specs.Distance.{grid}
 use Rattle.steps.proofs.distance.grid.Goals as goal
 
-pub returns-then-distance-lt-LEAST_DISTANCE : goal.returns-then-distance-lt-LEAST_DISTANCE
-returns-then-distance-lt-LEAST_DISTANCE c = search ranges depth 8
+pub returns-in_err-inside : goal.returns-in_err-inside
+returns-in_err-inside c = search (rules, outside, ranges) depth 8
 
-pub returns-then-distance-gt-MOST_DISTANCE : goal.returns-then-distance-gt-MOST_DISTANCE
-returns-then-distance-gt-MOST_DISTANCE c = search ranges depth 8
-
-pub returns-then-factor-lt-LEAST_COMBINED : goal.returns-then-factor-lt-LEAST_COMBINED
-returns-then-factor-lt-LEAST_COMBINED c = search ranges depth 8
-
-pub returns-then-factor-gt-MOST_COMBINED : goal.returns-then-factor-gt-MOST_COMBINED
-returns-then-factor-gt-MOST_COMBINED c = search ranges depth 8
+pub returns-in_err-inside-2 : goal.returns-in_err-inside-2
+returns-in_err-inside-2 c = search (rules, outside, ranges) depth 8
 
 pub returns : goal.returns
 unfolding grid
-returns c = search ranges depth 8
+returns c = search (rules, ranges) depth 8

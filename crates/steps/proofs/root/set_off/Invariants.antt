@@ -1,12 +1,8 @@
 -- `set_off` meets its contract. The loop's invariant: the number is x, moved by the pairs passed
--- over, and has nine pairs. The measure is the pairs that are left.
+-- over, and has nine pairs.
 use mathlib.Core.Path.{◌≡◌}
-use Prim.Native.Nat.{◌-◌, ◌*◌, ◌^◌, ◌≤◌, ◌<◌}
+use Prim.Native.Nat.{◌*◌, ◌^◌, ◌<◌}
 use Rattle.steps.proofs.root.set_off.Given as goal
 
-abbrev pub invariant-loop-left : goal.invariant-loop-left
-invariant-loop-left l =
-    (l.left ≤ 9) × (l.number < 100 ^ 9) × (l.number ≡ l.x * 100 ^ (9 - l.left))
-
-abbrev pub decreases-loop-left : goal.decreases-loop-left
-decreases-loop-left l = l.left
+abbrev pub invariant-loop-passed : goal.invariant-loop-passed
+invariant-loop-passed l = (l.number < 100 ^ 9) × (l.number ≡ l.x * 100 ^ l.passed)

@@ -1,10 +1,7 @@
 -- `worked` meets its contract. The loop's invariant: the working is that of the pairs brought down.
--- The measure is the pairs that are left.
+use Prim.Native.Nat.{◌-◌}
 use Rattle.steps.proofs.root.ByDigits.{Brought}
 use Rattle.steps.proofs.root.worked.Given as goal
 
-abbrev pub invariant-loop-left : goal.invariant-loop-left
-invariant-loop-left l = Brought l.x l.number l.left l.w
-
-abbrev pub decreases-loop-left : goal.decreases-loop-left
-decreases-loop-left l = l.left
+abbrev pub invariant-loop : goal.invariant-loop
+invariant-loop l = Brought l.x l.number (l.end - l.counter) l.w

@@ -1,19 +1,18 @@
 -- `angle_share` meets its contract: each test is a bound of the range, and in range the share is
 -- the rule.
+use Rattle.std.proofs.Common.{rules}
 use Rattle.answer.proofs.Telling.{ranges}
+use Rattle.steps.proofs.Ranges.{outside}
 use Rattle.steps.proofs.share.angle_share.Goals as goal
 
-pub returns-then-size-gt-HALF_CIRCLE : goal.returns-then-size-gt-HALF_CIRCLE
-returns-then-size-gt-HALF_CIRCLE c = search ranges depth 9
+pub returns-in_err-at_most : goal.returns-in_err-at_most
+returns-in_err-at_most c = search (rules, ranges) depth 8
 
-pub returns-then-n-lt1 : goal.returns-then-n-lt1
-returns-then-n-lt1 c = search ranges depth 9
-
-pub returns-then-n-gt-MOST_LEGS : goal.returns-then-n-gt-MOST_LEGS
-returns-then-n-gt-MOST_LEGS c = search ranges depth 9
+pub returns-in_err-inside : goal.returns-in_err-inside
+returns-in_err-inside c = search (rules, outside, ranges) depth 8
 
 pub returns-then-n-j : goal.returns-then-n-j
-returns-then-n-j c = search ranges depth 9
+returns-then-n-j c = search (rules, ranges) depth 8
 
 pub returns : goal.returns
-returns c = search ranges depth 9
+returns c = search (rules, ranges) depth 8

@@ -5,8 +5,8 @@ use lib.ListN.{length}
 use Rattle.tape.proofs.order.Parts.{Along}
 use Rattle.tape.proofs.order.rows.Given as goal
 
-abbrev pub invariant-loop-number : goal.invariant-loop-number
-invariant-loop-number l = Along l.tape l.end l.c
+abbrev pub invariant-loop-c : goal.invariant-loop-c
+invariant-loop-c l = Along l.tape l.end l.c
 
-abbrev pub decreases-loop-number : goal.decreases-loop-number
-decreases-loop-number l = length l.tape - l.c.at
+abbrev pub decreases-loop-c : goal.decreases-loop-c
+decreases-loop-c l = length l.tape - l.c.at

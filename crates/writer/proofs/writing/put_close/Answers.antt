@@ -1,28 +1,25 @@
 -- `put_close` meets its contract: the kind's byte, then each field after the one before.
-use borrow.Author.Rules.{rules}
-use Rattle.records.specs.Record.{body_of, kind_fields, table}
-use Rattle.writer.proofs.writing.Stores.{close_stored}
+use mathlib.Core.List.{[], ◌∷◌}
+use lib.IntN.{pos}
+use lib.Seq.{sets-eq}
+use Rattle.records.specs.Bytes.{bytes, written}
+use Rattle.records.specs.Record.{close_kind, body_of, bytes_of}
 use Rattle.writer.proofs.writing.put_close.Goals as goal
 
-pub put_four-requires : goal.put_four-requires
-unfolding body_of kind_fields table
-put_four-requires c = search rules
-
-pub put_four-requires-2 : goal.put_four-requires-2
-unfolding body_of kind_fields table
-put_four-requires-2 c = search rules
-
-pub put_four-requires-3 : goal.put_four-requires-3
-unfolding body_of kind_fields table
-put_four-requires-3 c = search rules
-
-pub put_four-requires-4 : goal.put_four-requires-4
-unfolding body_of kind_fields table
-put_four-requires-4 c = search rules
-
 pub returns : goal.returns
-unfolding body_of kind_fields table
+unfolding body_of bytes_of bytes written
 returns c =
-    close_stored c.args.out.now _ _ _ _ _ _ _ _ _ c.put_four-4.ensures
-    c.put_four-3.ensures c.put_four-2.ensures c.put_four.ensures c.put_kind.ensures
-    c.requires
+    let a = c.args in
+    let fields = pos a.angle ∷ pos a.northing ∷ pos a.easting ∷ pos a.mark ∷ [] in
+    rw (
+      c.put-4.ensures,
+      c.put-3.ensures,
+      c.put-2.ensures,
+      c.put.ensures,
+      c.put_kind.ensures,
+      c.to_be_bytes.ensures,
+      c.to_be_bytes-2.ensures,
+      c.to_be_bytes-3.ensures,
+      c.to_be_bytes-4.ensures,
+    )
+    (sets-eq (bytes_of close_kind fields) a.out.now 0 c.requires)

@@ -1,19 +1,24 @@
 -- `put_project` meets its contract: the kind's byte, then each field after the one before.
-use borrow.Author.Rules.{rules}
-use Rattle.records.specs.Record.{body_of, kind_fields, table}
-use Rattle.writer.proofs.writing.Stores.{project_stored}
+use mathlib.Core.List.{[], ◌∷◌}
+use lib.IntN.{pos}
+use lib.Seq.{sets-eq}
+use Rattle.records.specs.Bytes.{bytes, written}
+use Rattle.records.specs.Record.{project_kind, body_of, bytes_of}
+use Rattle.writer.proofs.writing.Stores.{elevation_bits}
 use Rattle.writer.proofs.writing.put_project.Goals as goal
 
-pub put_two-requires : goal.put_two-requires
-unfolding body_of kind_fields table
-put_two-requires c = search rules
-
-pub put_two-requires-2 : goal.put_two-requires-2
-unfolding body_of kind_fields table
-put_two-requires-2 c = search rules
-
 pub returns : goal.returns
-unfolding body_of kind_fields table
+unfolding body_of bytes_of bytes
 returns c =
-    project_stored c.args.out.now _ _ _ _ _ _ c.put_two-2.ensures c.put_two.ensures
-    c.put_kind.ensures c.raw-feet.ensures c.requires.project_kind_in_bounds
+    let a = c.args in
+    let room = c.requires.project_kind_in_bounds in
+    rw (
+      c.put-2.ensures,
+      c.put.ensures,
+      c.put_kind.ensures,
+      c.to_be_bytes.ensures,
+      c.to_be_bytes-2.ensures,
+      elevation_bits a.elevation.v c.requires.v_bound,
+    )
+    (unfold written in
+    (sets-eq (bytes_of project_kind (pos a.latitude ∷ a.elevation.v ∷ [])) a.out.now 0 room))

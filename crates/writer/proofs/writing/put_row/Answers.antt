@@ -1,19 +1,20 @@
 -- `put_row` meets its contract: the kind's byte, then each field after the one before.
-use borrow.Author.Rules.{rules}
-use Rattle.records.specs.Record.{body_of, kind_fields, table}
-use Rattle.writer.proofs.writing.Stores.{row_stored}
+use mathlib.Core.List.{[], ◌∷◌}
+use lib.IntN.{pos}
+use lib.Seq.{sets-eq}
+use Rattle.records.specs.Bytes.{bytes, written}
+use Rattle.records.specs.Record.{row_kind, body_of, bytes_of}
 use Rattle.writer.proofs.writing.put_row.Goals as goal
 
-pub put_two-requires : goal.put_two-requires
-unfolding body_of kind_fields table
-put_two-requires c = search rules
-
-pub put_four-requires : goal.put_four-requires
-unfolding body_of kind_fields table
-put_four-requires c = search rules
-
 pub returns : goal.returns
-unfolding body_of kind_fields table
+unfolding body_of bytes_of bytes written
 returns c =
-    row_stored c.args.out.now _ _ _ _ _ c.put_four.ensures c.put_two.ensures
-    c.put_kind.ensures c.requires
+    let a = c.args in
+    rw (
+      c.put-2.ensures,
+      c.put.ensures,
+      c.put_kind.ensures,
+      c.to_be_bytes.ensures,
+      c.to_be_bytes-2.ensures,
+    )
+    (sets-eq (bytes_of row_kind (pos a.minute ∷ pos a.factor ∷ [])) a.out.now 0 c.requires)

@@ -1,7 +1,0 @@
--- `cross` meets its contract: four offsets in range have products, and a difference of products,
--- that fit.
-use Rattle.steps.proofs.Areas.{cross_size}
-use Rattle.desk.proofs.area.cross.Goals as goal
-
-pub returns-clause-size : goal.returns-clause-size
-returns-clause-size c = search cross_size

@@ -1,2 +1,0 @@
--- The laws of the tests of a range.
-pub mod Tests

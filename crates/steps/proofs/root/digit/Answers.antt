@@ -1,5 +1,0 @@
-use Rattle.steps.proofs.root.ByDigits.{digit_found}
-use Rattle.steps.proofs.root.digit.Goals as goal
-
-pub returns-clause-is : goal.returns-clause-is
-returns-clause-is c = search digit_found
