@@ -1,11 +1,11 @@
 -- What the program prints is the text that the sheet step shows, or the line of its refusal, which
 -- is short since no number is above 9.
-use Prim.Native.Nat.{ℕ, ◌≤◌, ◌<◌}
+use Prim.Native.Nat.{ℕ, ◌≤◌}
 use native.Mathlib.Omega.{arith}
 use mathlib.Core.Path.{◌≡◌, refl, sym, ◌∙◌, ap}
 use mathlib.Core.Bool.{Bool, true, false, cond}
 use mathlib.Core.List.{List, ◌++◌}
-use borrow.Author.Tests.{lt-ltb, le-ltb, eqb-false}
+use borrow.Author.Tests.{le-ltb, eqb-false}
 use lib.Dec.{eqb}
 use lib.ListN.{length, take, drop, length-append, length-take}
 use lib.IntN.{ℤ}
@@ -39,14 +39,6 @@ module _ (tape out : List ℕ) where
 
   abbrev words : List ℤ
   words = sheet_words entry tape
-
-  -- ---- no room
-  module _ (few : length out < 4096) where
-    pub none_length : 0 ≡ length (printed_in tape (length out))
-    none_length = rw (lt-ltb (length out) 4096 few)
-
-    pub none_bytes : out ≡ over (printed_in tape (length out)) out
-    none_bytes = rw (lt-ltb (length out) 4096 few)
 
   module _ (wide : 4096 ≤ length out) (m : List ℕ) where
     shows : (r : Result ℕ Refused) → Showed entry tape out m r → told_sheet r ≡ shown t words

@@ -22,8 +22,8 @@ use Rattle.desk.specs.declared.Figures.{Figures}
 use Rattle.desk.specs.declared.Frame.{Frame}
 use Rattle.desk.specs.declared.Leg.{Leg}
 use Rattle.desk.specs.Answer.{told_traverse}
-use Rattle.desk.specs.Answer.{checked_angles, first_of, first_for, adjusted_traverse}
-use Rattle.desk.specs.Answer.{adjusted_words, after_first, words_after_first, traversed_by}
+use Rattle.desk.specs.Answer.{checked_angles, first_of, first_for}
+use Rattle.desk.specs.Answer.{after_first, words_after_first, traversed_by}
 use Rattle.desk.specs.Answer.{traversed_words_by}
 use Rattle.desk.specs.Traverse.{along}
 use Rattle.desk.specs.Inside.{Known, Ready, Sound, checked_as, with_legs}
@@ -81,26 +81,6 @@ module _ (tape : List ℕ) (r : Result Frame Refused) (legs : List Leg)
       subst Leaves (sym (by_checked (λ x. x) (Ok b) h))
       (by_test Leaves (closes_angles _ _)
       (λ t. sound_of (fields_of tape) (tape_ready tape known.reads)) (λ t. tt))
-
-  module _ (e : ℕ → ℤ) where
-    module _ (x : Refused) (h : r ≡ Err x) where
-      pub stopped_told : told_traverse (Err x) ≡ after_first e (checked_angles (fields_of tape))
-      stopped_told = by_checked (after_first e) (Err x) h
-
-      pub stopped_words : (words : List ℤ)
-          → words ≡ words_after_first e (checked_angles (fields_of tape)) words
-      stopped_words words = by_checked (λ y. words_after_first e y words) (Err x) h
-
-    module _ (b : Frame) (h : r ≡ Ok b) where
-      pub settled_told : (a : Result Figures Refused)
-          → told_traverse a ≡ adjusted_traverse e (with_legs b legs)
-          → told_traverse a ≡ after_first e (checked_angles (fields_of tape))
-      settled_told a g = g ∙ by_checked (after_first e) (Ok b) h
-
-      pub settled_words : (l words : List ℤ)
-          → l ≡ adjusted_words e (with_legs b legs) words
-          → l ≡ words_after_first e (checked_angles (fields_of tape)) words
-      settled_words l words g = g ∙ by_checked (λ y. words_after_first e y words) (Ok b) h
 
 -- ---- the whole, by any table of sines
 pub known_is : (tape : List ℕ) (t : Result Control Refused) → AllBytes tape → t ≡ taken_of tape

@@ -42,6 +42,11 @@ pub record Passes (tape : List ℕ) (c after : Cursor) (r : Result Cursor Refuse
   pub same : reading_from tape c ≡ reached tape r
   pub to : (d : Cursor) → r ≡ Ok d → d ≡ after
 
+-- what comes of a record, where the cursor after it is known and is not handed on
+abbrev pub passed_to : Cursor → Result (Unit {0}) Refused → Result Cursor Refused
+passed_to after (Ok _) = Ok after
+passed_to after (Err r) = Err r
+
 -- the one kind that may stand at a place stands there: at the end of the tape it is cut short,
 -- before it another record is out of order
 abbrev pub due_of : List ℕ → ℕ → ℕ → Result (Unit {0}) Refused
@@ -49,11 +54,6 @@ due_of tape at k =
     cond (ltb at (length tape))
     (cond (eqb (get_or tape at 0) k) (Ok tt) (refused_at OutOfOrder at))
     (refused_at CutShort at)
-
--- the same, where the cursor after it is known and not handed on
-abbrev pub passed_to : Cursor → Result (Unit {0}) Refused → Result Cursor Refused
-passed_to after (Ok _) = Ok after
-passed_to after (Err r) = Err r
 
 -- the numbers of the record at a place are in range
 abbrev pub good_there : List ℕ → ℕ → Bool
