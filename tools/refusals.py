@@ -61,7 +61,8 @@ def of_enum() -> Words:
     """What the cases of the enum display; their numbers count up from 1."""
     source = joined(ENUM)
     cases = source.partition("pub enum Refusal {")[2].partition("\n}\n")[0]
-    said = dict(re.findall(r'Refusal::(\w+) => (?:\{\s*)?"([^"]*)"', source))
+    arms = source.partition("let said = match self {")[2].partition("};")[0].split("Refusal::")[1:]
+    said = {arm.split(" ")[0]: "".join(re.findall(r'"([^"]*)"', arm)) for arm in arms}
     names = re.findall(r"^ +(\w+)(?: = 1)?,$", cases, re.M)
     return {number: said[name] for number, name in enumerate(names, 1) if name in said}
 

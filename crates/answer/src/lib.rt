@@ -45,12 +45,12 @@ impl Refusal {
 // In the words of docs/REFUSALS.md (tools/refusals.py holds the two together).
 impl fmt::Display for Refusal {
     fn fmt<W: fmt::Write>(&self, f: &mut fmt::Formatter<W>) -> fmt::Result {
-        f.write_str(match self {
+        let said = match self {
             Refusal::NoRoom => "the lent memory is too small",
             Refusal::CutShort => "the tape ends inside a record, or before the close",
             Refusal::OutOfOrder => {
-                "out of order: rows come first, then one project, one start, 1 to 64 legs \
-                 and one close"
+                f.write_str("out of order: ")?;
+                "rows come first, then one project, one start, 1 to 64 legs and one close"
             }
             Refusal::OutOfRange => "a number is out of range",
             Refusal::BadRows => {
@@ -60,7 +60,8 @@ impl fmt::Display for Refusal {
             Refusal::NoRow => "no row has the mean latitude",
             Refusal::BadAngles => "the angular misclosure is above 10 seconds for each angle",
             Refusal::BadClosure => "the position closure is above 1 in 5,000 of the distance",
-        })
+        };
+        f.write_str(said)
     }
 }
 

@@ -98,9 +98,9 @@ module _ (tape : List ℕ) (c : Control) (known : Known tape c) where
     sight_turned : k ≤ c.legs → s.angle < circle
     sight_turned low = rw angle_at_lem (ready.angles k (omega (arith, legs_is)))
 
-    module _ (z : List Leg) (room : length z ≡ 64) (low : k < length (take c.legs z)) where
+    module _ (low : k < c.legs) where
       under : k < f.line.legs
-      under = omega (arith, legs_is, legs_over z room)
+      under = omega (arith, legs_is)
 
       pub next_sight : (u : Sight) → u ≡ sight_at tape s.next → Sighted tape (k + 1) u
       next_sight u e =
@@ -126,16 +126,37 @@ module _ (tape : List ℕ) (c : Control) (known : Known tape c) where
       leg_next a l m i j = filled_on (carried_leg f) m k _ l i (rw (j, distance_is))
 
   -- ---- from leg k to the next
-  module _ (k : ℕ) (s u : Sight) (h : Sighted tape k s) (z : List Leg) (room : length z ≡ 64)
-      (low : k < length (take c.legs z)) (e : u ≡ sight_at tape s.next) where
+  module _ (k : ℕ) (s u : Sight) (h : Sighted tape k s) (low : k < c.legs)
+      (e : u ≡ sight_at tape s.next) where
     next : Sighted tape (k + 1) u
-    next = next_sight k s h z room low u e
+    next = next_sight k s h low u e
 
     pub next_turned : u.angle < circle
-    next_turned = sight_turned (k + 1) u next (omega (arith, legs_over z room))
+    next_turned = sight_turned (k + 1) u next (omega arith)
 
     pub carried_next : (a r : ℕ) → r ≡ onward a u.angle → a ≡ carried t k → r ≡ carried t (k + 1)
     carried_next a r i j = i ∙ rw (j, angle_at_lem (k + 1) u next) (carried_on t k)
+
+  -- the same where leg k is one of the list that the walk fills
+  module _ (k : ℕ) (s : Sight) (h : Sighted tape k s) (z : List Leg) (room : length z ≡ 64)
+      (in_list : k < length (take c.legs z)) where
+    low_in : k < c.legs
+    low_in = omega (arith, legs_over z room)
+
+    pub sight_in : (u : Sight) → u ≡ sight_at tape s.next → Sighted tape (k + 1) u
+    sight_in = next_sight k s h low_in
+
+    pub turned_in : (u : Sight) → u ≡ sight_at tape s.next → u.angle < circle
+    turned_in u = next_turned k s u h low_in
+
+    pub carried_in : (u : Sight) → u ≡ sight_at tape s.next → (a r : ℕ) → r ≡ onward a u.angle
+        → a ≡ carried t k → r ≡ carried t (k + 1)
+    carried_in u = carried_next k s u h low_in
+
+    pub leg_in : (a : ℕ) (l m : List Leg) → l ≡ filled (carried_leg f) k m → a ≡ carried t k
+        → set l k (record { azimuth = a; distance = s.distance })
+        ≡ filled (carried_leg f) (k + 1) m
+    leg_in = leg_next k s h low_in
 
   -- ---- at the first leg
   pub first_turned : (s : Sight) → s ≡ sight_at tape c.line → s.angle < circle
@@ -204,7 +225,7 @@ module _ (tape : List ℕ) (c : Control) (known : Known tape c) where
     unfolding misclosure_of
     misclosure_known = i ∙ rw (j, known.is)
 
-    test_known : x ≡ closes_angles (misclosure_of f) f.line.legs
+    pub test_known : x ≡ closes_angles (misclosure_of f) f.line.legs
     test_known = rw (← misclosure_known, ← legs_is) tested
 
     pub checked_good : (b : Frame) (l m : List Leg) → x ≡ true → b ≡ frame_of c (c.legs + 1) w

@@ -1,8 +1,8 @@
 // The table of sines: "the nine-decimal sine of every whole minute from 0 to 90 degrees, 5,401
 // entries", in units of the ninth decimal.
 //
-// It is a constant, and every sine of the desk is read from it. A function that names it lays it
-// out by value, so a caller that wants many sines takes the table once and lends it.
+// It is a constant, and every sine of the desk is read from it where it stands (`own`). A caller
+// that takes it into a table of its own may lend that to the functions that end in `_in`.
 #![tactic(auto)]
 
 ghost use Rattle.minutes.specs.Entry.{Table};

@@ -7,10 +7,9 @@ ghost use Rattle.notes.specs.Bom.{without_bom};
 ghost use Rattle.notes.specs.Noting.{Owed, text_length_of};
 
 use answer::{Refusal, Refused};
-use back::Text;
 use items::kind_of;
 use records::Kind;
-use words::Words;
+use words::{Lines, Words};
 
 // The bytes that the text of a tape asks for: the longest text has room in them.
 pub const TEXT_BYTES: usize = 16_384;
@@ -81,8 +80,8 @@ mod page;
 mod units;
 mod words;
 
-// A line written as a record, or nothing of one that has no word: where the next record goes, or
-// what is wrong with the line.
+// The first line of a text written as a record, or nothing of one that has no word: where the next
+// record goes, or what is wrong with the line.
 fn put_line(line: &[u8], out: &mut [u8], place: usize) -> Result<usize, Fault> {
     let mut words = Words::of(line);
     let Some(word) = words.next() else {
@@ -99,7 +98,7 @@ fn put_line(line: &[u8], out: &mut [u8], place: usize) -> Result<usize, Fault> {
 // All lines, one record each.
 fn put_lines(text: &[u8], out: &mut [u8]) -> Result<usize, Wrong> {
     let mut place = 0;
-    for (passed, line) in text.split_inclusive(|byte| *byte == b'\n').enumerate() {
+    for (passed, line) in Lines::of(text).enumerate() {
         place = put_line(line, out, place).map_err(|fault| Wrong {
             line: passed + 1,
             fault,
@@ -108,7 +107,7 @@ fn put_lines(text: &[u8], out: &mut [u8]) -> Result<usize, Wrong> {
     Ok(place)
 }
 
-// How many bytes of tape a line becomes.
+// How many bytes of tape the first line of a text becomes.
 fn line_bytes(line: &[u8]) -> usize {
     Words::of(line)
         .next()
@@ -120,7 +119,7 @@ fn line_bytes(line: &[u8]) -> usize {
 // of the text.
 fn line_of(text: &[u8], place: usize) -> usize {
     let mut left = place;
-    for (passed, line) in text.split_inclusive(|byte| *byte == b'\n').enumerate() {
+    for (passed, line) in Lines::of(text).enumerate() {
         let bytes = line_bytes(line);
         if left < bytes {
             return passed + 1;
@@ -172,6 +171,7 @@ pub fn message_of(line: usize, fault: Fault, out: &mut [u8]) -> usize
 pub fn refusal_of(number: u32, place: usize, out: &mut [u8]) -> usize
     ensures { result ≤ length out.old }
 {
+    let unknown = "no refusal of the desk";
     match Refusal::try_from(number) {
         Ok(refusal) => page::put(
             out,
@@ -179,7 +179,7 @@ pub fn refusal_of(number: u32, place: usize, out: &mut [u8]) -> usize
         ),
         Err(_) => page::put(
             out,
-            format_args!("REFUSED {number} at byte {place}: no refusal of the desk"),
+            format_args!("REFUSED {number} at byte {place}: {unknown}"),
         ),
     }
 }
@@ -197,7 +197,7 @@ pub fn text_of(tape: &[u8], out: &mut [u8]) -> Result<usize, Refused>
         });
     }
     tape::read(tape)?;
-    Ok(page::put(out, Text(tape)))
+    Ok(back::put_text(tape, out))
 }
 
 // The bytes that an answer counts: those at the front of what was lent, all of them where it has no

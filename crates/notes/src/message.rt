@@ -4,35 +4,51 @@ use answer::Refusal;
 use std::error::Error;
 use std::fmt;
 
+fn degrees<W: fmt::Write>(f: &mut fmt::Formatter<W>, what: &str) -> fmt::Result {
+    write!(f, "the degrees of the {what}, a whole number")
+}
+
+fn minutes<W: fmt::Write>(f: &mut fmt::Formatter<W>, what: &str) -> fmt::Result {
+    write!(f, "the minutes of the {what}, a whole number below 60")
+}
+
+fn seconds<W: fmt::Write>(f: &mut fmt::Formatter<W>, what: &str) -> fmt::Result {
+    write!(
+        f,
+        "the seconds of the {what}, below 60 with at most 1 decimal"
+    )
+}
+
 impl fmt::Display for Item {
     fn fmt<W: fmt::Write>(&self, f: &mut fmt::Formatter<W>) -> fmt::Result {
-        f.write_str(match self {
-            Item::LatitudeDegrees => "the degrees of the latitude, a whole number",
-            Item::LatitudeMinutes => "the minutes of the latitude, a whole number below 60",
-            Item::Factor => "the scale factor, with at most 7 decimals",
-            Item::Elevation => "the mean elevation in feet, a whole number",
-            Item::Northing => "the northing in feet, with at most 2 decimals",
-            Item::Easting => "the easting in feet, with at most 2 decimals",
-            Item::AzimuthDegrees => "the degrees of the azimuth, a whole number",
-            Item::AzimuthMinutes => "the minutes of the azimuth, a whole number below 60",
-            Item::AzimuthSeconds => "the seconds of the azimuth, below 60 with at most 1 decimal",
-            Item::AngleDegrees => "the degrees of the angle, a whole number",
-            Item::AngleMinutes => "the minutes of the angle, a whole number below 60",
-            Item::AngleSeconds => "the seconds of the angle, below 60 with at most 1 decimal",
-            Item::Distance => "the distance in feet, with at most 3 decimals",
-        })
+        match self {
+            Item::LatitudeDegrees => degrees(f, "latitude"),
+            Item::LatitudeMinutes => minutes(f, "latitude"),
+            Item::Factor => f.write_str("the scale factor, with at most 7 decimals"),
+            Item::Elevation => f.write_str("the mean elevation in feet, a whole number"),
+            Item::Northing => f.write_str("the northing in feet, with at most 2 decimals"),
+            Item::Easting => f.write_str("the easting in feet, with at most 2 decimals"),
+            Item::AzimuthDegrees => degrees(f, "azimuth"),
+            Item::AzimuthMinutes => minutes(f, "azimuth"),
+            Item::AzimuthSeconds => seconds(f, "azimuth"),
+            Item::AngleDegrees => degrees(f, "angle"),
+            Item::AngleMinutes => minutes(f, "angle"),
+            Item::AngleSeconds => seconds(f, "angle"),
+            Item::Distance => f.write_str("the distance in feet, with at most 3 decimals"),
+        }
     }
 }
 
 // The ranges of the numbers that stand behind a word.
-fn ranges(word: Word) -> &'static str {
-    match word {
+fn ranges<W: fmt::Write>(f: &mut fmt::Formatter<W>, word: Word) -> fmt::Result {
+    f.write_str("out of range: ")?;
+    let said = match word {
         Word::Row => {
             "a row has a latitude of 0 00 to 90 00 and a scale factor of 0.9990000 to 1.0010000"
         }
         Word::Project => {
-            "a project has a mean latitude of 0 00 to 90 00 and a mean elevation of -1000 to \
-             20000 feet"
+            f.write_str("a project has a mean latitude of 0 00 to 90 00 ")?;
+            "and a mean elevation of -1000 to 20000 feet"
         }
         Word::Start => {
             "a start has coordinates of 0.00 to 10000000.00 feet and an azimuth below 360 degrees"
@@ -41,10 +57,11 @@ fn ranges(word: Word) -> &'static str {
             "a leg has an angle below 360 degrees and a distance of 1.000 to 20000.000 feet"
         }
         Word::Close | Word::Other => {
-            "a close has an angle and an azimuth below 360 degrees and coordinates of 0.00 to \
-             10000000.00 feet"
+            f.write_str("a close has an angle and an azimuth below 360 degrees ")?;
+            "and coordinates of 0.00 to 10000000.00 feet"
         }
-    }
+    };
+    f.write_str(said)
 }
 
 // What the reading of the tape refuses, with the refusal's number.
@@ -63,7 +80,7 @@ impl fmt::Display for Fault {
             Fault::Behind => {
                 f.write_str("expected the end of the line; text stands behind the last number")
             }
-            Fault::Range(word) => write!(f, "out of range: {}", ranges(*word)),
+            Fault::Range(word) => ranges(f, *word),
             Fault::Room | Fault::Nothing => f.write_str("no room for the tape"),
             Fault::Order => numbered(f, Refusal::OutOfOrder),
             Fault::Rows => numbered(f, Refusal::BadRows),

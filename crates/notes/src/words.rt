@@ -1,12 +1,64 @@
-// A line as words, and the fields of a line, read one after the other: the first fault ends the
-// reading.
+// A text as lines, a line as words, and the fields of a line, read one after the other: the first
+// fault ends the reading, and nothing after it is looked at.
+ghost use Rattle.std.specs.Prelude.{◌+◌, ◌-◌, ◌≤◌, cond, length};
+ghost use Rattle.std.specs.Iterator.{at_most};
+
 use crate::number::number_of;
 use crate::units::{MINUTES_IN_DEGREE, TENTHS_IN_DEGREE, TENTHS_IN_MINUTE};
 use crate::{Fault, Item};
 use records::{Kind, Record};
 use whole::Whole;
 
-// What of a line is left to read.
+// The lines of a text, each with those after it: where a line ends is looked for only when the next
+// one is asked for.
+#[derive(Drop)]
+pub struct Lines<'a> {
+    left: &'a [u8],
+    begun: bool,
+}
+
+impl<'a> Lines<'a> {
+    pub fn of(text: &'a [u8]) -> Lines<'a> {
+        Lines {
+            left: text,
+            begun: false,
+        }
+    }
+}
+
+// What follows the first line of a text.
+fn after_line(text: &[u8]) -> &[u8]
+    ensures { length result.now ≤ length text.now - 1 }
+{
+    match text.iter().position(|byte| *byte == b'\n') {
+        Some(end) => &text[end + 1..],
+        None => &[],
+    }
+}
+
+// The text from the line on that is answered next: the first line of a text, or the one after it.
+fn following(text: &[u8], begun: bool) -> &[u8]
+    ensures { length result.now ≤ cond begun (length text.now - 1) (length text.now) }
+{
+    if begun { after_line(text) } else { text }
+}
+
+impl<'a> Iterator for Lines<'a> {
+    type Item = &'a [u8];
+
+    ghost remaining = { λ s. at_most (cond s.begun (length s.left.now) (1 + length s.left.now)) };
+
+    fn next(&mut self) -> Option<&'a [u8]> {
+        self.left = following(self.left, self.begun);
+        self.begun = true;
+        if self.left.is_empty() {
+            return None;
+        }
+        Some(self.left)
+    }
+}
+
+// What is left to read of a line, and the lines after it: its end is found as it is come to.
 #[derive(Drop)]
 pub struct Words<'a> {
     left: &'a [u8],
@@ -16,20 +68,33 @@ fn is_blank(byte: &u8) -> bool {
     matches!(byte, b' ' | b'\t')
 }
 
-// A line without its end, LF or CR LF; the last one may lack it.
-fn without_end(line: &[u8]) -> &[u8] {
-    match line {
-        [said @ .., b'\r', b'\n'] => said,
-        [said @ .., b'\n'] => said,
-        _ => line,
+// What follows the blanks at the front of a text.
+fn after_blanks(text: &[u8]) -> &[u8] {
+    match text.iter().position(|byte| !is_blank(byte)) {
+        Some(at) => &text[at..],
+        None => &[],
     }
 }
 
-// A line without its comment, which may start anywhere.
-fn without_comment(line: &[u8]) -> &[u8] {
-    match line.iter().position(|byte| *byte == b'#') {
-        Some(at) => &line[..at],
-        None => line,
+// Whether a line says nothing more: there it ends, with LF, with CR LF or with the text, or a
+// comment starts.
+fn is_over(left: &[u8]) -> bool {
+    matches!(left, [] | [b'\n' | b'#', ..] | [b'\r', b'\n', ..])
+}
+
+// How long the word at the front of a text is. A CR before the LF of a line's end is no part of it.
+fn word_length(text: &[u8]) -> usize
+    ensures { result ≤ length text.now }
+{
+    let end = text
+        .iter()
+        .position(|byte| is_blank(byte) || matches!(byte, b'\n' | b'#'))
+        .unwrap_or(text.len());
+    let (word, after) = text.split_at(end);
+    if after.starts_with(b"\n") && word.ends_with(b"\r") {
+        end - 1
+    } else {
+        end
     }
 }
 
@@ -37,20 +102,20 @@ impl<'a> Iterator for Words<'a> {
     type Item = &'a [u8];
 
     fn next(&mut self) -> Option<&'a [u8]> {
-        let from = self.left.iter().position(|byte| !is_blank(byte))?;
-        let said = &self.left[from..];
-        let to = said.iter().position(is_blank).unwrap_or(said.len());
-        let (word, left) = said.split_at(to);
+        let said = after_blanks(self.left);
+        if is_over(said) {
+            return None;
+        }
+        let (word, left) = said.split_at(word_length(said));
         self.left = left;
         Some(word)
     }
 }
 
 impl<'a> Words<'a> {
-    pub fn of(line: &'a [u8]) -> Words<'a> {
-        Words {
-            left: without_comment(without_end(line)),
-        }
+    // The words of a text's first line.
+    pub fn of(text: &'a [u8]) -> Words<'a> {
+        Words { left: text }
     }
 
     // The next number, of an item that has no sign.
@@ -131,9 +196,10 @@ impl<'a> Words<'a> {
                 mark: self.azimuth()?,
             },
         };
-        match self.next() {
-            Some(_) => Err(Fault::Behind),
-            None => Ok(record),
+        if is_over(after_blanks(self.left)) {
+            Ok(record)
+        } else {
+            Err(Fault::Behind)
         }
     }
 }

@@ -63,7 +63,7 @@ module _ {A : Type 0} (f : A → ℤ) (e : ℕ → ℤ) (axis : Axis) (distance 
       → told f (Err x) ≡ course_step e axis distance azimuth
   too_long x h = refuses f x _ _ (not_first _ _ (lt-leb distance 20100000 h))
 
-  no_azimuth : (x : OutOfRange) → ltb azimuth circle ≡ false
+  pub no_azimuth : (x : OutOfRange) → ltb azimuth circle ≡ false
       → told f (Err x) ≡ course_step e axis distance azimuth
   no_azimuth x h = refuses f x _ _ (not_second (leb distance 20100000) _ h)
 

@@ -1,6 +1,6 @@
 // The doubled area of a loop, by its stations' offsets: northing, then easting, of each.
 ghost use Rattle.std.specs.Prelude.{◌≡◌, true, ◌+◌, ◌*◌, ◌%◌, ◌/◌, ◌<◌, ◌≤◌, length};
-ghost use Rattle.std.specs.Prelude.{nat_abs};
+ghost use Rattle.std.specs.Prelude.{leb, nat_abs};
 ghost use Rattle.answer.specs.Told.{told_amount};
 ghost use Rattle.answer.specs.Limit.{most_legs};
 ghost use Rattle.steps.specs.Area.{most_offset, good_offsets, northing, easting};
@@ -12,7 +12,7 @@ use answer::limit::MOST_LEGS;
 use whole::Whole;
 
 // "offsets of size up to 130,000,000", in hundredths of a foot
-const MOST_OFFSET: u64 = 130_000_000;
+const MOST_OFFSET: i64 = 130_000_000;
 
 // "1 to 64 stations", as many as a loop may have legs, with two offsets each.
 const MOST_WORDS: u32 = 2 * MOST_LEGS as u32;
@@ -89,11 +89,19 @@ fn next(i: usize, n: usize) -> usize
     i + 1
 }
 
+// Whether an offset is within its range. By two comparisons, which the compiler makes one: its size
+// would take twice as long.
+fn is_near(offset: i64) -> bool
+    ensures { result ≡ leb (nat_abs offset) most_offset }
+{
+    -MOST_OFFSET <= offset && offset <= MOST_OFFSET
+}
+
 // Whether every offset is within its range.
 fn good_offsets(offsets: &[i64]) -> bool
     ensures { result ≡ good_offsets offsets.now }
 {
-    offsets.iter().all(|z| z.unsigned_abs() <= MOST_OFFSET)
+    offsets.iter().all(|z| is_near(*z))
 }
 
 // The doubled area of 1 to 64 stations.

@@ -11,13 +11,19 @@ use answer::OutOfRange;
 use whole::Whole;
 
 // "S of 1..1,300,000,000": the most that the sum of grid distances comes to.
-pub const MOST_SUM: u32 = 1_300_000_000;
+pub const MOST_SUM: u64 = 1_300_000_000;
+
+// The same, as narrow as the tests of the ranges take it.
+pub(crate) const NARROW_SUM: u32 = MOST_SUM as u32;
 
 // "closures of size up to 1,200,000,000 for the test"
 const MOST_TESTED: u32 = 1_200_000_000;
 
 // "26,000 for the number", and for the shares: a closure that passes the test is no larger.
-pub const MOST_CLOSURE: u32 = 26_000;
+pub const MOST_CLOSURE: u64 = 26_000;
+
+// The same, as narrow as the tests of the ranges take it.
+pub(crate) const NARROW_CLOSURE: u32 = MOST_CLOSURE as u32;
 
 // "50,000 x 50,000 x (C_N squared + C_E squared)": a closure in hundredths is at most one of
 // 50,000 parts of S in thousandths, which is 1 in 5,000.
@@ -37,7 +43,7 @@ fn closures_stand(north: Whole, east: Whole, s: u64, most: u32) -> Result<(), Ou
 {
     at_most(most, north.size())?;
     at_most(most, east.size())?;
-    inside(1, MOST_SUM, s)
+    inside(1, NARROW_SUM, s)
 }
 
 // The sum of the closures' squares.
@@ -65,7 +71,7 @@ pub fn precision(north: Whole, east: Whole, s: u64) -> Result<u64, OutOfRange>
     ensures rule { PrecisionTold north.v east.v s (told_count result) }
     ensures is { told_count result ≡ precision_step north.v east.v s }
 {
-    closures_stand(north, east, s, MOST_CLOSURE)?;
+    closures_stand(north, east, s, NARROW_CLOSURE)?;
     let both = squares(north, east);
     if both == 0 {
         return Ok(0);

@@ -6,7 +6,7 @@ ghost use Rattle.minutes.specs.Quadrant.{half_circle};
 ghost use Rattle.steps.specs.Closure.{most_sum};
 ghost use Rattle.steps.specs.Share.{share as Share·share, share_step, angle_share_step};
 
-use crate::closure::{MOST_CLOSURE, MOST_SUM};
+use crate::closure::{NARROW_CLOSURE, NARROW_SUM};
 use crate::range::{at_most, inside};
 use answer::OutOfRange;
 use answer::limit::MOST_LEGS;
@@ -32,8 +32,8 @@ fn share_of(total: Whole, part: u64, whole: u64) -> Whole
 pub fn share(closure: Whole, part: u64, whole: u64) -> Result<Whole, OutOfRange>
     ensures { told_amount result ≡ share_step closure.v part whole }
 {
-    at_most(MOST_CLOSURE, closure.size())?;
-    inside(1, MOST_SUM, whole)?;
+    at_most(NARROW_CLOSURE, closure.size())?;
+    inside(1, NARROW_SUM, whole)?;
     if whole < part {
         return Err(OutOfRange);
     }

@@ -68,7 +68,7 @@ module _ (words : List ℤ) where
       east_is : o.east.v ≡ easting (taken_from words n) k
       east_is = rw t (sym (taken_word east k n h))
 
-      ranged : Bounded 130000000 o
+      pub ranged : Bounded 130000000 o
       ranged =
           let l = taken_from words n in
           record {
@@ -77,7 +77,7 @@ module _ (words : List ℤ) where
           }
 
     -- ---- the sum
-    sum_next : (i : ℕ) (here there : Vector) (sum z r : ℤ) → r ≡ sum +ℤ z
+    pub sum_next : (i : ℕ) (here there : Vector) (sum z r : ℤ) → r ≡ sum +ℤ z
         → z ≡ here.north.v *ℤ there.east.v -ℤ there.north.v *ℤ here.east.v
         → here ≡ taken_at words i
         → there ≡ taken_at words (i + 1) → i + 1 < n → sum ≡ doubled_to (taken_from words n) i

@@ -1,7 +1,7 @@
 use borrow.Author.Rules.{rules}
 use Rattle.whole.specs.Filled.{filled}
 use Rattle.desk.proofs.Carrying.{legs_few, mark_turned, first_sight, first_turned, carried_first}
-use Rattle.desk.proofs.Carrying.{next_sight, next_turned, carried_next, leg_next, legs_last}
+use Rattle.desk.proofs.Carrying.{sight_in, turned_in, carried_in, leg_in, legs_last}
 use Rattle.desk.proofs.angles.carry.Goals as goal
 
 pub slice_bounds-leg-items-end : goal.slice_bounds-leg-items-end
@@ -24,13 +24,13 @@ loop-leg-init c =
     }
 
 pub next-azimuth-requires : goal.next-azimuth-requires
-next-azimuth-requires c = (search rules, search next_turned)
+next-azimuth-requires c = (search rules, search turned_in)
 
 pub loop-leg-preserved : goal.loop-leg-preserved
 loop-leg-preserved c =
     record {
-      sighted = search next_sight;
-      azimuth = search carried_next;
+      sighted = search sight_in;
+      azimuth = search carried_in;
       turned = search rules;
-      legs = search leg_next;
+      legs = search leg_in;
     }
