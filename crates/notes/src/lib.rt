@@ -9,7 +9,7 @@ ghost use Rattle.notes.specs.Noting.{Owed, text_length_of};
 use answer::{Refusal, Refused};
 use items::kind_of;
 use records::Kind;
-use words::{Lines, Words};
+use words::{Words, after_ends, after_line};
 
 // The bytes that the text of a tape asks for: the longest text has room in them.
 pub const TEXT_BYTES: usize = 16_384;
@@ -80,14 +80,10 @@ mod page;
 mod units;
 mod words;
 
-// The first line of a text written as a record, or nothing of one that has no word: where the next
-// record goes, or what is wrong with the line.
-fn put_line(line: &[u8], out: &mut [u8], place: usize) -> Result<usize, Fault> {
-    let mut words = Words::of(line);
-    let Some(word) = words.next() else {
-        return Ok(place);
-    };
-    let kind = kind_of(word).ok_or(Fault::UnknownWord)?;
+// A line that has a word, written as a record: where the next one goes, or what is wrong with the
+// line.
+fn put_line(words: &mut Words, out: &mut [u8], place: usize) -> Result<usize, Fault> {
+    let kind = words.next().and_then(kind_of).ok_or(Fault::UnknownWord)?;
     let record = words.record(kind)?;
     writer::write(out, place, record).map_err(|refused| match refused.refusal {
         Refusal::NoRoom => Fault::Room,
@@ -95,21 +91,37 @@ fn put_line(line: &[u8], out: &mut [u8], place: usize) -> Result<usize, Fault> {
     })
 }
 
-// All lines, one record each.
+// The number of the line in which a part at the end of a text starts, counted from 1.
+fn line_at(text: &[u8], part: &[u8]) -> usize {
+    let before = &text[..text.len().saturating_sub(part.len())];
+    before.iter().filter(|byte| **byte == b'\n').count() + 1
+}
+
+// All lines, one record each, but for those that say nothing.
 fn put_lines(text: &[u8], out: &mut [u8]) -> Result<usize, Wrong> {
+    let mut left = text;
     let mut place = 0;
-    for (passed, line) in Lines::of(text).enumerate() {
-        place = put_line(line, out, place).map_err(|fault| Wrong {
-            line: passed + 1,
-            fault,
-        })?;
+    for _ in 0..text.len() {
+        left = match after_ends(left) {
+            [] => break,
+            [b'#', comment @ ..] => after_line(comment),
+            [b'\r', b'\n', after @ ..] => after,
+            said => {
+                let mut words = Words::of(said);
+                place = put_line(&mut words, out, place).map_err(|fault| Wrong {
+                    line: line_at(text, said),
+                    fault,
+                })?;
+                words.left()
+            }
+        };
     }
     Ok(place)
 }
 
 // How many bytes of tape the first line of a text becomes.
-fn line_bytes(line: &[u8]) -> usize {
-    Words::of(line)
+fn line_bytes(text: &[u8]) -> usize {
+    Words::of(text)
         .next()
         .and_then(kind_of)
         .map_or(0, Kind::bytes)
@@ -118,13 +130,21 @@ fn line_bytes(line: &[u8]) -> usize {
 // The number of the line whose record starts at a place of the tape, counted from 1; 0 is the end
 // of the text.
 fn line_of(text: &[u8], place: usize) -> usize {
-    let mut left = place;
-    for (passed, line) in Lines::of(text).enumerate() {
-        let bytes = line_bytes(line);
-        if left < bytes {
-            return passed + 1;
-        }
-        left -= bytes;
+    let mut left = text;
+    let mut bytes_left = place;
+    for _ in 0..text.len() {
+        left = match after_ends(left) {
+            [] => break,
+            [b'\r', b'\n', after @ ..] => after,
+            said => {
+                let bytes = line_bytes(said);
+                if bytes_left < bytes {
+                    return line_at(text, said);
+                }
+                bytes_left -= bytes;
+                after_line(said)
+            }
+        };
     }
     0
 }
@@ -171,6 +191,7 @@ pub fn message_of(line: usize, fault: Fault, out: &mut [u8]) -> usize
 pub fn refusal_of(number: u32, place: usize, out: &mut [u8]) -> usize
     ensures { result ≤ length out.old }
 {
+    // a piece by itself, as a refusal is: `Page` leaves out by pieces what has no room
     let unknown = "no refusal of the desk";
     match Refusal::try_from(number) {
         Ok(refusal) => page::put(

@@ -39,7 +39,7 @@ impl fmt::Display for Item {
     }
 }
 
-// The ranges of the numbers that stand behind a word.
+// The ranges of the numbers that stand behind a word. The longest ones are two pieces (`Page`).
 fn ranges<W: fmt::Write>(f: &mut fmt::Formatter<W>, word: Word) -> fmt::Result {
     f.write_str("out of range: ")?;
     let said = match word {

@@ -1,7 +1,6 @@
 // A text as lines, a line as words, and the fields of a line, read one after the other: the first
 // fault ends the reading, and nothing after it is looked at.
-ghost use Rattle.std.specs.Prelude.{◌+◌, ◌-◌, ◌≤◌, cond, length};
-ghost use Rattle.std.specs.Iterator.{at_most};
+ghost use Rattle.std.specs.Prelude.{◌≤◌, length};
 
 use crate::number::number_of;
 use crate::units::{MINUTES_IN_DEGREE, TENTHS_IN_DEGREE, TENTHS_IN_MINUTE};
@@ -9,56 +8,8 @@ use crate::{Fault, Item};
 use records::{Kind, Record};
 use whole::Whole;
 
-// The lines of a text, each with those after it: where a line ends is looked for only when the next
-// one is asked for.
-#[derive(Drop)]
-pub struct Lines<'a> {
-    left: &'a [u8],
-    begun: bool,
-}
-
-impl<'a> Lines<'a> {
-    pub fn of(text: &'a [u8]) -> Lines<'a> {
-        Lines {
-            left: text,
-            begun: false,
-        }
-    }
-}
-
-// What follows the first line of a text.
-fn after_line(text: &[u8]) -> &[u8]
-    ensures { length result.now ≤ length text.now - 1 }
-{
-    match text.iter().position(|byte| *byte == b'\n') {
-        Some(end) => &text[end + 1..],
-        None => &[],
-    }
-}
-
-// The text from the line on that is answered next: the first line of a text, or the one after it.
-fn following(text: &[u8], begun: bool) -> &[u8]
-    ensures { length result.now ≤ cond begun (length text.now - 1) (length text.now) }
-{
-    if begun { after_line(text) } else { text }
-}
-
-impl<'a> Iterator for Lines<'a> {
-    type Item = &'a [u8];
-
-    ghost remaining = { λ s. at_most (cond s.begun (length s.left.now) (1 + length s.left.now)) };
-
-    fn next(&mut self) -> Option<&'a [u8]> {
-        self.left = following(self.left, self.begun);
-        self.begun = true;
-        if self.left.is_empty() {
-            return None;
-        }
-        Some(self.left)
-    }
-}
-
-// What is left to read of a line, and the lines after it: its end is found as it is come to.
+// What is left to read of a text: of the line under way, and the lines after it. The end of a line
+// is found when it is come to.
 #[derive(Drop)]
 pub struct Words<'a> {
     left: &'a [u8],
@@ -70,19 +21,41 @@ fn is_blank(byte: &u8) -> bool {
 
 // What follows the blanks at the front of a text.
 fn after_blanks(text: &[u8]) -> &[u8] {
-    match text.iter().position(|byte| !is_blank(byte)) {
-        Some(at) => &text[at..],
-        None => &[],
-    }
+    let from = text
+        .iter()
+        .position(|byte| !is_blank(byte))
+        .unwrap_or(text.len());
+    &text[from..]
 }
 
 // Whether a line says nothing more: there it ends, with LF, with CR LF or with the text, or a
 // comment starts.
 fn is_over(left: &[u8]) -> bool {
-    matches!(left, [] | [b'\n' | b'#', ..] | [b'\r', b'\n', ..])
+    match left {
+        [] | [b'\n' | b'#', ..] => true,
+        [b'\r', after @ ..] => after.first() == Some(&b'\n'),
+        _ => false,
+    }
 }
 
-// How long the word at the front of a text is. A CR before the LF of a line's end is no part of it.
+// What follows the first line of a text.
+pub fn after_line(text: &[u8]) -> &[u8] {
+    let mut lines = text.split_inclusive(|byte| *byte == b'\n');
+    let line = lines.next().unwrap_or(text);
+    &text[line.len().min(text.len())..]
+}
+
+// What follows the blanks and the LFs at the front of a text.
+pub fn after_ends(text: &[u8]) -> &[u8] {
+    let from = text
+        .iter()
+        .position(|byte| !matches!(byte, b' ' | b'\t' | b'\n'))
+        .unwrap_or(text.len());
+    &text[from..]
+}
+
+// How long the word at the front of a text is: 0 where the line says nothing more. A CR before the
+// LF of a line's end is no part of it.
 fn word_length(text: &[u8]) -> usize
     ensures { result ≤ length text.now }
 {
@@ -90,11 +63,9 @@ fn word_length(text: &[u8]) -> usize
         .iter()
         .position(|byte| is_blank(byte) || matches!(byte, b'\n' | b'#'))
         .unwrap_or(text.len());
-    let (word, after) = text.split_at(end);
-    if after.starts_with(b"\n") && word.ends_with(b"\r") {
-        end - 1
-    } else {
-        end
+    match &text[..end] {
+        [.., b'\r'] if text.get(end) == Some(&b'\n') => end - 1,
+        _ => end,
     }
 }
 
@@ -103,10 +74,10 @@ impl<'a> Iterator for Words<'a> {
 
     fn next(&mut self) -> Option<&'a [u8]> {
         let said = after_blanks(self.left);
-        if is_over(said) {
+        let (word, left) = said.split_at(word_length(said));
+        if word.is_empty() {
             return None;
         }
-        let (word, left) = said.split_at(word_length(said));
         self.left = left;
         Some(word)
     }
@@ -116,6 +87,11 @@ impl<'a> Words<'a> {
     // The words of a text's first line.
     pub fn of(text: &'a [u8]) -> Words<'a> {
         Words { left: text }
+    }
+
+    // What of the text is not read.
+    pub fn left(&self) -> &'a [u8] {
+        self.left
     }
 
     // The next number, of an item that has no sign.

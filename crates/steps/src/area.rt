@@ -89,8 +89,8 @@ fn next(i: usize, n: usize) -> usize
     i + 1
 }
 
-// Whether an offset is within its range. By two comparisons, which the compiler makes one: its size
-// would take twice as long.
+// Whether an offset is within its range. By two comparisons, which the compiler makes one: by its
+// size it would take longer.
 fn is_near(offset: i64) -> bool
     ensures { result ≡ leb (nat_abs offset) most_offset }
 {
