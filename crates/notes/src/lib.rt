@@ -97,7 +97,8 @@ fn line_at(text: &[u8], part: &[u8]) -> usize {
     before.iter().filter(|byte| **byte == b'\n').count() + 1
 }
 
-// All lines, one record each, but for those that say nothing.
+// All lines, one record each, but for those that say nothing. Each turn passes a byte or more, so
+// that there are turns enough.
 fn put_lines(text: &[u8], out: &mut [u8]) -> Result<usize, Wrong> {
     let mut left = text;
     let mut place = 0;

@@ -38,7 +38,7 @@ fn is_over(left: &[u8]) -> bool {
     }
 }
 
-// What follows the first line of a text.
+// What follows the first line of a text. That a line is no longer than its text is not known here.
 pub fn after_line(text: &[u8]) -> &[u8] {
     let mut lines = text.split_inclusive(|byte| *byte == b'\n');
     let line = lines.next().unwrap_or(text);
